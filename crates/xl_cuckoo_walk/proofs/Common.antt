@@ -6,9 +6,8 @@ pub use Rattle.std.specs.List.{list_any}
 pub use Rattle.std.specs.Prelude.{find, is_some, IsSome, slice_get, slice_index}
 pub use Rattle.xl_cuckoo.proofs.KeyLemmas.{no-value, once-added, once-cleared, once-reworded, once-same}
 pub use Rattle.xl_cuckoo.specs.Table.{AddsEntry, AreOnce, CuckooState, inserted, opening, SameEntries, value_of}
-pub use Rattle.xl_list_lemmas.proofs.MemberLemmas.{any-false, any-In, find-In, find-None, find-only, find-passes, In-any, In-append, In-left, In-map, In-right, map-In}
+pub use Rattle.xl_list_lemmas.proofs.MemberLemmas.{any-each, any-false, any-In, any-same, both, find-In, find-None, find-only, find-passes, In-any, In-append, In-left, In-map, In-right, map-In, none-any, same-tests}
 pub use Rattle.xl_list_lemmas.proofs.RecencyLemmas.{find-none, find-some, newest-map, purged-map, touched-map, touched-none}
-pub use Rattle.xl_list_lemmas.proofs.SameLemmas.{any-each, any-same, both, none-any, same-tests}
 pub use Rattle.xl_list_lemmas.proofs.TallyLemmas.{tally-any}
 pub use Rattle.xl_list_lemmas.specs.Members.{In}
 pub use Rattle.xl_list_lemmas.specs.Tallies.{tally}
@@ -46,8 +45,7 @@ pub use Rattle.xl_model.specs.declared.work.Work.{Work}
 pub use Rattle.xl_model_lemmas.proofs.FreshSectionLemmas.{by-fields, holder-same, section-after, section-fenced, section-refused, section-some, section-walked, sections-same}
 pub use Rattle.xl_model_lemmas.proofs.InsertionLemmas.{In-with, stays-with, with-In, without-In, without-other}
 pub use Rattle.xl_model_lemmas.proofs.MappingLemmas.{named-In, named-is}
-pub use Rattle.xl_model_lemmas.proofs.OrderLemmas.{level-low, order-same, orders-same, pages-some, same-level}
-pub use Rattle.xl_model_lemmas.proofs.PlaceLemmas.{aligned-frame, covers-meets, first-covered, named-first, named-order, named-space}
+pub use Rattle.xl_model_lemmas.proofs.PlaceLemmas.{aligned-frame, covers-meets, first-covered, level-low, named-first, named-order, named-space, order-same, orders-same, pages-some, same-level}
 pub use Rattle.xl_model_lemmas.proofs.PlacingLemmas.{attempt-by, entries-same, forced-entries, insertion-by, one_of, placing-by, set-length, Succeeded, swapped-adds}
 pub use Rattle.xl_model_lemmas.proofs.SearchLemmas.{only, only-first}
 pub use Rattle.xl_model_lemmas.proofs.SectionLemmas.{count-keys, In-keys, keys-In, keys-once, small-block}

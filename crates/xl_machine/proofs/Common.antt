@@ -4,7 +4,7 @@ pub use Rattle.std.proofs.lemmas.Bool.Decides.{nat_tests}
 pub use Rattle.std.specs.List.{list_all, list_any}
 pub use Rattle.std.specs.Prelude.{IfSome, replicate}
 pub use Rattle.xl_frames.specs.Pool.{HasNone, IsFree, marked}
-pub use Rattle.xl_list_lemmas.proofs.MemberLemmas.{any-In, find-In, find-passes, In-any}
+pub use Rattle.xl_list_lemmas.proofs.MemberLemmas.{any-In, find-In, find-passes, In-any, same-tests}
 pub use Rattle.xl_list_lemmas.specs.Members.{In}
 pub use Rattle.xl_model.specs.Addresses.{allows, is_aligned, levels_of, pages_of}
 unfoldable pub use Rattle.xl_model.specs.Addresses.{is_canonical, page_of}

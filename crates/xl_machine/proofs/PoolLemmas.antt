@@ -1,6 +1,5 @@
 -- A pool of frames through a change after which each leaf holds the frames that it held.
-use Rattle.xl_machine.proofs.Common.{◌&&◌, ◌+◌, ◌∙◌, ◌≡◌, any-In, ap, at_page, Bool, Change, changed, changed-In, false, holds_frames, In, In-any, inl, inr, IsMapping, IsNewPlace, IsPoolOf, IsSound, Leaf, leaf_named, List, list_any, nat_lt, new-In, new_leaf, not, old-In, old_leaf, Order, pages_of, Perm, Protect, refl, Relocate, Row, Some, stays-changed, subst, sym, true, with_perm, ℕ}
-use Rattle.xl_list_lemmas.proofs.SameLemmas.{same-tests}
+use Rattle.xl_machine.proofs.Common.{◌&&◌, ◌+◌, ◌∙◌, ◌≡◌, any-In, ap, at_page, Bool, Change, changed, changed-In, false, holds_frames, In, In-any, inl, inr, IsMapping, IsNewPlace, IsPoolOf, IsSound, Leaf, leaf_named, List, list_any, nat_lt, new-In, new_leaf, not, old-In, old_leaf, Order, pages_of, Perm, Protect, refl, Relocate, Row, same-tests, Some, stays-changed, subst, sym, true, with_perm, ℕ}
 
 -- tests that agree on all frames make one pool
 pool-same : (frames : ℕ) (xs ys : List Leaf) (pool : List Bool) → IsPoolOf frames xs pool → ((f : ℕ) → list_any (holds_frames f 1) ys ≡ list_any (holds_frames f 1) xs)

@@ -1,11 +1,10 @@
 -- Each leaf of a cuckoo row has its key in one way of its order. Entries are counted by every test, and leaves by the
 -- test of their entries: at each change the two numbers stay the same.
-use Rattle.xl_model_laws.proofs.Common.{◌&&◌, ◌*◌, ◌+◌, ◌/◌, ◌<◌, ◌==◌, ◌^◌, ◌∙◌, ◌≡◌, ◌≤◌, [], any-In, ap, arith, at_page, AtCap, Bool, brought, Chained, Change, changed, cond, Cuckoo, CuckooRules, CuckooWays, entries-same, entries_in, Entry, eq-eqb, false, finds_place, first-low, first-small, first_so, has_key, In, In-any, Insert, insertion-adds, is_placed, is_table, is_width, is_within, IsMapping, IsNewPlace, IsSound, Leaf, leaf_entry, leaf_key, leaf_named, leaf_word, length, levels_of, List, list_all, list_any, map, Mode, named-In, named-is, narrowed, nat_le, nat_tests, None, not, old_leaf, one_if, opening_shape, opening_way, opening_ways, Option, Order, order-same, orders-same, other-key, pages_of, Perm, place-small, Placed, placed_leaf, Placing, Protect, Radix, refl, Relocate, Remove, reworded, Row, run, Runs, same_order, second_so, Shape, shape_after, Some, subst, suc, sym, Table, tally, true, ways-reworded, ways-without, ways_brought, ways_of, ways_placed, ways_taken, WayShape, widened, with_leaf, with_new, with_perm, with_ways, with_word, without_entry, without_leaf, without_old, zero, ℕ}
+use Rattle.xl_model_laws.proofs.Common.{◌&&◌, ◌*◌, ◌+◌, ◌/◌, ◌<◌, ◌==◌, ◌^◌, ◌∙◌, ◌≡◌, ◌≤◌, [], any-In, ap, arith, at_page, AtCap, Bool, brought, Chained, Change, changed, cond, Cuckoo, CuckooRules, CuckooWays, entries-same, entries_in, Entry, eq-eqb, false, finds_place, first-low, first-small, first_so, has_key, In, In-any, Insert, insertion-adds, is_placed, is_table, is_width, is_within, IsMapping, IsNewPlace, IsSound, Leaf, leaf_entry, leaf_key, leaf_named, leaf_word, length, levels_of, List, list_all, list_any, map, Mode, named-In, named-is, named-order, named-space, narrowed, nat_le, nat_tests, None, not, old_leaf, one_if, opening_shape, opening_way, opening_ways, Option, Order, order-same, orders-same, other-key, pages_of, Perm, place-small, Placed, placed_leaf, Placing, Protect, Radix, refl, Relocate, Remove, reworded, Row, run, Runs, same_order, second_so, Shape, shape_after, Some, subst, suc, sym, Table, tally, true, ways-reworded, ways-without, ways_brought, ways_of, ways_placed, ways_taken, WayShape, widened, with_leaf, with_new, with_perm, with_ways, with_word, without_entry, without_leaf, without_old, zero, ℕ}
 use Rattle.std.proofs.lemmas.List.{length-map}
 use Rattle.xl_list_lemmas.proofs.TallyLemmas.{tally-any, tally-each, tally-most, tally-only}
 use Rattle.xl_model_lemmas.proofs.InsertionLemmas.{same-place, without-In, without-other}
 use Rattle.xl_model_lemmas.proofs.LeafTallyLemmas.{sorted-once, tally-less, tally-with}
-use Rattle.xl_model_lemmas.proofs.PlaceLemmas.{named-order, named-space}
 use Rattle.xl_model_laws.proofs.AfterLemmas.{cuckoo-after}
 use Rattle.xl_model_laws.proofs.CapLemmas.{refused-same}
 use Rattle.xl_model_laws.proofs.PlacingLemmas.{insertion-count, lists-length}

@@ -1,8 +1,7 @@
 -- A pool of frames through a change: a block is taken for a new leaf, or given back for one that
 -- goes.
-use Rattle.xl_model_lemmas.proofs.Common.{◌+◌, ◌<◌, ◌∙◌, ◌≡◌, ◌≤◌, any-false, any-In, ap, arith, Bool, Change, changed, false, holds_frames, In, In-any, inl, inr, Insert, IsFree, IsFreeOf, IsMapping, IsPoolOf, Leaf, leaf_key, leaf_named, length, List, list_any, marked, nat_lt, nat_tests, new_leaf, not, old_leaf, Order, pages_of, Protect, refl, Relocate, Remove, Row, slice_index_or, Some, subst, sym, true, with_leaf, without_leaf, without_old, ℕ}
+use Rattle.xl_model_lemmas.proofs.Common.{◌+◌, ◌<◌, ◌∙◌, ◌≡◌, ◌≤◌, any-false, any-In, ap, arith, Bool, Change, changed, false, holds_frames, In, In-any, inl, inr, Insert, IsFree, IsFreeOf, IsMapping, IsPoolOf, Leaf, leaf_key, leaf_named, length, List, list_any, marked, nat_lt, nat_tests, new_leaf, none-any, not, old_leaf, Order, pages_of, Protect, refl, Relocate, Remove, Row, same-tests, slice_index_or, Some, subst, sym, true, with_leaf, without_leaf, without_old, ℕ}
 use Rattle.xl_frames.proofs.MarkLemmas.{length-marked, marked_above, marked_below, marked_inside}
-use Rattle.xl_list_lemmas.proofs.SameLemmas.{none-any, same-tests}
 use Rattle.xl_model_lemmas.proofs.InsertionLemmas.{In-with, In-without, same-place, with-In, without-In, without-other}
 use Rattle.xl_model_lemmas.proofs.MappingLemmas.{named-In}
 use Rattle.xl_model_lemmas.proofs.PoolLemmas.{no-leaf}

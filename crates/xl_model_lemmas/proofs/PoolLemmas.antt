@@ -1,7 +1,7 @@
 -- The lowest free block of a pool is the lowest block that no leaf holds. For the machine.
 use Rattle.xl_model_lemmas.proofs.Common.{◌*◌, ◌+◌, ◌<◌, ◌∙◌, ◌≡◌, ◌≤◌, any-In, ap, arith, Bool, false, HasNone, holds_frames, In, In-any, IsAnswer, IsFree, IsFreeOf, IsLowest, IsPoolOf, Leaf, length, List, list_any, lowest, nat_le, nat_tests, None, not, Option, Order, pages_of, refl, slice_index_or, Some, subst, sym, true, ℕ}
 use Rattle.xl_model_lemmas.proofs.LowestLemmas.{lowest-is-lowest}
-use Rattle.xl_model_lemmas.proofs.OrderLemmas.{pages-some}
+use Rattle.xl_model_lemmas.proofs.PlaceLemmas.{pages-some}
 
 -- a leaf that holds a frame of a block holds some frame of it
 shared : (at size : ℕ) (x : Leaf) → 0 < size → 0 < pages_of x.order → holds_frames at size x ≡ true → (f : ℕ) × (at ≤ f) × (f < at + size) × (holds_frames f 1 x ≡ true)

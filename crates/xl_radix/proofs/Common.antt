@@ -30,8 +30,7 @@ pub use Rattle.xl_model.specs.declared.leaf.Leaf.{Leaf}
 pub use Rattle.xl_model_lemmas.proofs.EndLemmas.{up-from}
 pub use Rattle.xl_model_lemmas.proofs.InsertionLemmas.{In-with, In-without, same-place, sorted-with, sorted-without, stays-with, with-In, without-In, without-other}
 pub use Rattle.xl_model_lemmas.proofs.MappingLemmas.{named-In, named-is}
-pub use Rattle.xl_model_lemmas.proofs.OrderLemmas.{level-low, pages-some}
-pub use Rattle.xl_model_lemmas.proofs.PlaceLemmas.{aligned-frame, named-first, named-order, named-space}
+pub use Rattle.xl_model_lemmas.proofs.PlaceLemmas.{aligned-frame, level-low, named-first, named-order, named-space, pages-some}
 pub use Rattle.xl_model_lemmas.proofs.SortedLemmas.{same-sorted, with-without}
 unfoldable pub use Rattle.xl_pte.specs.Decode.{decode_of}
 pub use Rattle.xl_pte.specs.declared.word.Pte.{Pte}

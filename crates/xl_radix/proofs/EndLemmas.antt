@@ -3,8 +3,7 @@ use Rattle.xl_radix.proofs.Common.{◌*◌, ◌+◌, ◌-◌, ◌<◌, ◌∙◌
 use Rattle.xl_radix.proofs.CaseLemmas.{split-le}
 use Rattle.xl_radix.proofs.ListLemmas.{any-nothing, find-nothing}
 use Rattle.xl_radix.proofs.MeetLemmas.{covered, covering, meets, Met, met, Overlap}
-use Rattle.xl_radix.proofs.NumberLemmas.{number-some}
-use Rattle.xl_radix.proofs.SlotLemmas.{At, in-nodes, in-nodes-leaf, leaf-in-none, leaf-in-some, Under}
+use Rattle.xl_radix.proofs.SlotLemmas.{At, in-nodes, in-nodes-leaf, leaf-in-none, leaf-in-some, number-some, Under}
 
 -- the nodes of a page end at the first level, from this one on, whose node is needed
 pub end-is : (n a l space page : ℕ) (leaves : List Leaf) → a ≤ l → l ≤ a + n

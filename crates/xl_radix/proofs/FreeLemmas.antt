@@ -1,8 +1,8 @@
 -- The free numbers beside the nodes by number.
 use Rattle.xl_radix.proofs.Common.{◌++◌, ◌+◌, ◌-◌, ◌<◌, ◌∙◌, ◌∷◌, ◌≡◌, ◌≤◌, [], ap, arith, Bool, false, free_count, IfNone, IfSome, is_none, List, map, Node, None, opening_nodes, Option, position, position_from, position_from-zero, put_first, refl, replicate, roots, slice_index_or, slice_set, Some, subst, suc, sym, true, zero, ℕ}
 use Rattle.xl_numbers.specs.Free.{HasNone, IsLowest}
-use Rattle.xl_radix.proofs.NumberLemmas.{free-none}
 use Rattle.xl_radix.proofs.OpeningLemmas.{none-node, opening-count}
+use Rattle.xl_radix.proofs.SlotLemmas.{free-none}
 
 set-free : (nodes : List (Option Node)) (k : ℕ) (y : Option Node) → slice_set (map is_none nodes) k (is_none y) ≡ map is_none (slice_set nodes k y)
 set-free [] k y = refl

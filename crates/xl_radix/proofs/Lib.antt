@@ -1,10 +1,9 @@
 mod Common
 mod CaseLemmas
 mod ListLemmas
-pub mod NumberLemmas
 pub mod UpLemmas
 mod MeetLemmas
-mod SlotLemmas
+pub mod SlotLemmas
 mod EndLemmas
 mod MadeNodeLemmas
 mod PlacedLeafLemmas

@@ -3,8 +3,8 @@ use Rattle.xl_radix.proofs.Common.{◌*◌, ◌++◌, ◌+◌, ◌-◌, ◌<◌,
 use Rattle.xl_numbers.proofs.FlagLemmas.{zero-word}
 use Rattle.xl_radix.proofs.CountLemmas.{filled-nothing}
 use Rattle.xl_radix.proofs.EndLemmas.{none-word}
-use Rattle.xl_radix.proofs.NumberLemmas.{below-some, is-below, number-some}
 use Rattle.xl_radix.proofs.ReadBackLemmas.{reads-back}
+use Rattle.xl_radix.proofs.SlotLemmas.{below-some, is-below, number-some}
 
 abbrev pub none-node : Option Node
 none-node = None

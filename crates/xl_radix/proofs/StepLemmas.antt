@@ -3,10 +3,9 @@ use Rattle.xl_radix.proofs.Common.{◌%◌, ◌*◌, ◌+◌, ◌-◌, ◌<◌, 
 use Rattle.xl_radix.proofs.CountLemmas.{counted-more, filled-le}
 use Rattle.xl_radix.proofs.EndLemmas.{none-word, not-both, word-none}
 use Rattle.xl_radix.proofs.MadeNodeLemmas.{IsSpot, made, made-at_node, made-empty, made-nearly, made-rooted, made_nodes, made_words, new_node}
-use Rattle.xl_radix.proofs.NumberLemmas.{below-some, node-in, number-some}
 use Rattle.xl_radix.proofs.PlacedLeafLemmas.{placed, placed-exact, placed-mapping, placed_words}
 use Rattle.xl_radix.proofs.ReadBackLemmas.{reads-back}
-use Rattle.xl_radix.proofs.SlotLemmas.{At, at_node-word, in-nodes-leaf, leaf-in-some, pointer-low, Says, says, Under}
+use Rattle.xl_radix.proofs.SlotLemmas.{At, at_node-word, below-some, in-nodes-leaf, leaf-in-some, node-in, number-some, pointer-low, Says, says, Under}
 use Rattle.xl_pte.specs.declared.word.Pte.TheVariants as pte
 
 -- The word that was read, in the node that is at a page, is that of the slot.

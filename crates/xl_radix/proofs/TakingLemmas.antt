@@ -4,10 +4,9 @@ use Rattle.xl_radix.proofs.CountLemmas.{filled-some}
 use Rattle.xl_radix.proofs.FreedNodeLemmas.{filled-needed, kept-nearly, node-is}
 use Rattle.xl_radix.proofs.ListLemmas.{find-nothing}
 use Rattle.xl_radix.proofs.MadeNodeLemmas.{new_node}
-use Rattle.xl_radix.proofs.NumberLemmas.{below-some, node-in, number-some}
 use Rattle.xl_radix.proofs.RemovalLemmas.{Named, named}
 use Rattle.xl_radix.proofs.ShapeLemmas.{kept-one, own-slot}
-use Rattle.xl_radix.proofs.SlotLemmas.{in-nodes, leaf-in-none, slot-at}
+use Rattle.xl_radix.proofs.SlotLemmas.{below-some, in-nodes, leaf-in-none, node-in, number-some, slot-at}
 
 -- A named leaf needs the nodes above it.
 pub named-needs : (s f l : ℕ) (o : Order) (leaves : List Leaf) → IsNamed s f o leaves → level_of o < l → in_nodes s l (up l f) leaves ≡ true

@@ -33,7 +33,7 @@ pub use Rattle.xl_phys.specs.Lines.{counted, IsWord}
 pub use Rattle.xl_pte.specs.Decode.{bit, leaf_at, pointer_at, ppn_of, says, SaysSmall}
 unfoldable pub use Rattle.xl_pte.specs.Decode.{decode_of}
 pub use Rattle.xl_pte.specs.declared.word.Pte.{Pte}
-pub use Rattle.xl_radix.proofs.NumberLemmas.{below-is, below-some, number-some}
+pub use Rattle.xl_radix.proofs.SlotLemmas.{below-is, below-some, number-some}
 pub use Rattle.xl_radix.proofs.UpLemmas.{page-low, up-le, up-top}
 pub use Rattle.xl_radix.specs.Steps.{IsMade, shape_of, with_brought}
 pub use Rattle.xl_radix.specs.Table.{Table}

@@ -3,9 +3,8 @@ use Rattle.xl_range.proofs.Common.{◌+◌, ◌-◌, ◌<◌, ◌==◌, ◌∙�
 use Rattle.xl_range.proofs.CutCountLemmas.{cut-count}
 use Rattle.xl_range.proofs.CutLemmas.{head-cut, held-cut, next-cut, own-key}
 use Rattle.xl_range.proofs.HoldLemmas.{apart-held, apart-resized, fit-range, key-there, with-front}
-use Rattle.xl_range.proofs.JoinLemmas.{In-key, In-range}
 use Rattle.xl_range.proofs.LeafInLemmas.{Sizes, sizes}
-use Rattle.xl_range.proofs.TouchLemmas.{some-pages}
+use Rattle.xl_range.proofs.TouchLemmas.{In-key, In-range, some-pages}
 
 following-cons : (n : ℕ) (x r : Range) (rs : List Range) → range_key r < range_key x → kept_following n x (r ∷ rs) ≡ r ∷ kept_following n x rs
 following-cons zero x r rs less = refl

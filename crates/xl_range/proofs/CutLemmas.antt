@@ -1,9 +1,8 @@
 -- For the table of ranges: a leaf cut out of maximal ranges leaves maximal ranges, of the other leaves.
 use Rattle.xl_range.proofs.Common.{◌*◌, ◌+◌, ◌/◌, ◌<◌, ◌==◌, ◌^◌, ◌∙◌, ◌∷◌, ◌≡◌, ◌≤◌, [], ap, arith, before_on, Bool, cond, cut, end_key, false, filter, first_leaf, following_on, In, inl, inr, IsHeld, IsLeafIn, IsRange, Leaf, leaf_key, List, nat_tests, next_leaf, Order, pages-some, pages_before, pages_following, pages_of, part_following, pieces, Range, range_key, range_leaves, refl, run_on, spread, Stops, subst, suc, sym, touches, true, without_leaf, zero, ℕ}
-use Rattle.xl_range.proofs.JoinLemmas.{In-key, lower}
 use Rattle.xl_range.proofs.LeafInLemmas.{leap-key, next-of-leap, Sizes, sizes}
 use Rattle.xl_range.proofs.RunLemmas.{count-is, leaves-is}
-use Rattle.xl_range.proofs.TouchLemmas.{leap, not-touching, run-add, some-pages, touch, touch-key}
+use Rattle.xl_range.proofs.TouchLemmas.{In-key, leap, lower, not-touching, run-add, some-pages, touch, touch-key}
 
 -- For the table of ranges: what is left of a range without a leaf of it are maximal ranges.
 pub stops-far : (low : ℕ) (y : Range) (rs : List Range) → end_key y < low → IsHeld low rs → Stops y rs

@@ -1,10 +1,9 @@
 -- What is found in held ranges: the range of a page and its leaf, and the range of a leaf that is there.
 use Rattle.xl_range.proofs.Common.{◌&&◌, ◌*◌, ◌+◌, ◌-◌, ◌/◌, ◌<◌, ◌==◌, ◌^◌, ◌∙◌, ◌∷◌, ◌≡◌, ◌≤◌, [], ap, arith, Bool, cond, covers, end_key, false, find, find-In, find-passes, first_leaf, HasLeaf, holds_page, In, inl, inr, is_some, IsAt, IsFit, IsFresh, IsHeld, IsLeafIn, IsNamed, Leaf, leaf_at_page, leaf_by, leaf_in, leaf_named, List, nat_le, nat_lt, nat_tests, next_leaf, None, Option, Order, pages-some, pages_of, Range, range_key, refl, run_on, Some, spread, subst, suc, sym, true, zero, ℕ}
 use Rattle.xl_range.proofs.HoldLemmas.{fit-range}
-use Rattle.xl_range.proofs.JoinLemmas.{In-key, In-range}
 use Rattle.xl_range.proofs.LeafInLemmas.{holds-first, named-in, sizes}
 use Rattle.xl_range.proofs.RunLemmas.{leaves-is}
-use Rattle.xl_range.proofs.TouchLemmas.{leap}
+use Rattle.xl_range.proofs.TouchLemmas.{In-key, In-range, leap}
 use Rattle.xl_model.specs.declared.address.Order.TheVariants as order
 
 -- The leaf `skip` pages on.

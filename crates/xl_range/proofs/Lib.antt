@@ -12,7 +12,6 @@ pub mod RowLemmas
 pub mod WalkLemmas
 mod RunLemmas
 mod TouchLemmas
-mod JoinLemmas
 mod LeafInLemmas
 mod CutLemmas
 mod MeetRangeLemmas

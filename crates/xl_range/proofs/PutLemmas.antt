@@ -2,9 +2,8 @@
 use Rattle.xl_range.proofs.Common.{◌+◌, ◌<◌, ◌==◌, ◌∙◌, ◌∷◌, ◌≡◌, ◌≤◌, [], ap, arith, Bool, cond, end_key, false, first_from, glue, grown, inl, inr, IsApart, IsClear, IsHeld, IsRange, IsThere, join, kept_put, kept_taken, last_below, last_or, length, List, nat_le, nat_lt, nat_tests, next_of, next_where, None, of_space, one_if, Option, prev_of, prev_where, put_by, Range, range_key, range_taken, refl, resized, resized-length, Some, subst, suc, sym, touches, true, with-length, with_range, without_range, ℕ}
 use Rattle.xl_range.proofs.CutLemmas.{own-key}
 use Rattle.xl_range.proofs.HoldLemmas.{apart-held, length-without, with-front}
-use Rattle.xl_range.proofs.JoinLemmas.{held-following, held-join}
 use Rattle.xl_range.proofs.NeighbourLemmas.{by-option, can-put, CanPut, first-next, IsNext, IsPrev, last-prev, next-space, next-there, prev-space}
-use Rattle.xl_range.proofs.TouchLemmas.{grown-touches, not-touching, some-pages, Touch, touch, touch-key}
+use Rattle.xl_range.proofs.TouchLemmas.{grown-touches, held-following, held-join, not-touching, some-pages, Touch, touch, touch-key}
 
 -- neighbours after a first range
 pub Past : Range → Option Range → Type 0

@@ -2,8 +2,8 @@
 -- what is clear of the ranges.
 use Rattle.xl_range.proofs.Common.{◌*◌, ◌+◌, ◌<◌, ◌∷◌, ◌≡◌, ◌≤◌, ◌⊎◌, [], arith, covers, end_key, false, first_leaf, In, inl, inr, IsClear, IsHeld, Leaf, leaf_key, List, nat_tests, next_leaf, pages-some, pages_of, Range, range_key, range_leaves, range_of_leaf, refl, run_on, spread, subst, suc, sym, true, zero, ℕ}
 use Rattle.xl_model_lemmas.specs.Sorted.{AllAbove, IsSorted}
-use Rattle.xl_range.proofs.JoinLemmas.{In-key}
 use Rattle.xl_range.proofs.RunLemmas.{leaves-is}
+use Rattle.xl_range.proofs.TouchLemmas.{In-key}
 
 -- A leaf is within these keys, in this space.
 pub record IsPlacedIn (space low high : ℕ) (z : Leaf) : Type 0 where

@@ -5,12 +5,11 @@ use Rattle.xl_range.proofs.CutCountLemmas.{cut-count}
 use Rattle.xl_range.proofs.CutLemmas.{AtHead, cut-spread, head-cut, held-cut, next-cut}
 use Rattle.xl_range.proofs.FindLemmas.{leaf-in-is}
 use Rattle.xl_range.proofs.HoldLemmas.{fit-range}
-use Rattle.xl_range.proofs.JoinLemmas.{clear-ends, held-following, held-join, In-key, In-range}
 use Rattle.xl_range.proofs.LeafChangeLemmas.{insert-changed, insert-room, remove-changed, remove-room}
 use Rattle.xl_range.proofs.LeafInLemmas.{Sizes, sizes}
 use Rattle.xl_range.proofs.MeetRangeLemmas.{clear-any}
 use Rattle.xl_range.proofs.RunLemmas.{count-is, leaves-is, ranges-spread}
-use Rattle.xl_range.proofs.TouchLemmas.{grown-range, leap, run-grown, some-pages, Touch, touch, touch-key}
+use Rattle.xl_range.proofs.TouchLemmas.{clear-ends, grown-range, held-following, held-join, In-key, In-range, leap, run-grown, some-pages, Touch, touch, touch-key}
 
 -- For the table of ranges: the leaves of maximal ranges with a range of one leaf more are their leaves with that leaf.
 pub with-run : (n : ℕ) (l a : Leaf) (rest : List Leaf) → leaf_key a + n * pages_of a.order ≤ leaf_key l → with_leaf l (run_on n a rest) ≡ run_on n a (with_leaf l rest)

@@ -7,8 +7,8 @@ use Rattle.xl_model.specs.declared.work.Walk.{Walk}
 use Rattle.xl_tlb.specs.RangeCoding.{IsKeepable}
 use Rattle.xl_range.proofs.FindLemmas.{at-page, held-fresh, leaf-found}
 use Rattle.xl_range.proofs.HoldLemmas.{fit-range}
-use Rattle.xl_range.proofs.JoinLemmas.{In-range}
 use Rattle.xl_range.proofs.RunLemmas.{ranges-spread}
+use Rattle.xl_range.proofs.TouchLemmas.{In-range}
 
 -- A walk of the row: what it keeps, returns and leaves.
 pub record IsRowWalk (space page n : ℕ) (t new : TreapView) (k left : Cached Range) (result : Walk) : Type 0 where

@@ -2,7 +2,7 @@
 use Rattle.xl_treap.proofs.Common.{◌*◌, ◌+◌, ◌-◌, ◌<◌, ◌^◌, ◌∙◌, ◌≡◌, ◌≤◌, ap, arith, beyond, Bin, CanPart, child, cut, cut_by, down, Every, false, High, InOrder, is_above, IsAt, IsCut, IsHeap, IsHung, length, List, Low, Off, on_side, Over, Range, range_key, refl, SameLine, Side, side_at, side_in, slice_index, subst, suc, sym, Tip, TopOver, toward, Tree, true, with_child, ℕ}
 use Rattle.xl_treap.proofs.AboveLemmas.{above-total, over-chain}
 use Rattle.xl_treap.proofs.FrameLemmas.{at-keeps, each-map, frame, Hung, hung, linked-line, linked-three, off-side}
-use Rattle.xl_treap.proofs.SideLemmas.{at-side}
+use Rattle.xl_treap.proofs.OrderLemmas.{at-side}
 use Rattle.xl_treap.proofs.WayLemmas.{at-there, down-next, heap-down, order-down}
 
 -- what each of a tree's nodes is, each node of its two parts is

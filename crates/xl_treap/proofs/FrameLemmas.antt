@@ -1,7 +1,6 @@
 -- Trees whose words stay where others change.
 use Rattle.xl_treap.proofs.Common.{◌%◌, ◌*◌, ◌+◌, ◌/◌, ◌<◌, ◌^◌, ◌∙◌, ◌≡◌, ◌≤◌, ◌⊎◌, ap, arith, beyond, Bin, Each, end_key, High, inl, InOrder, inr, IsAt, IsHung, IsLinked, IsNode, Keeps, length, link_at, List, Low, Off, on_side, Range, range_key, SameLine, SameOff, Side, side_at, side_in, slice_index, subst, suc, sym, Tip, Tree, with_child, ℕ}
-use Rattle.xl_treap.proofs.OrderLemmas.{order-le}
-use Rattle.xl_treap.proofs.SideLemmas.{at-with, hung-links, on-either}
+use Rattle.xl_treap.proofs.OrderLemmas.{at-with, hung-links, on-either, order-le}
 
 pub each-map : (P Q : ℕ → Type 0) (t : Tree) → ((m : ℕ) → P m → Q m) → Each P t → Each Q t
 each-map P Q Tip f e = tt

@@ -2,8 +2,7 @@
 use Rattle.xl_treap.proofs.Common.{◌%◌, ◌++◌, ◌/◌, ◌<◌, ◌==◌, ◌^◌, ◌∙◌, ◌∷◌, ◌≡◌, ◌≤◌, ◌⊎◌, [], ap, append_assoc, arith, beyond, Bin, cond, cut, cut_by, down, Each, end_key, false, graft, High, In, In-left, In-right, inl, InOrder, inr, is_above, IsAt, IsHeap, link_at, List, Low, nat_lt, nat_tests, Off, on_side, Over, pick-no, pick-yes, Range, range_key, ranges, refl, resized, SameLine, SameOff, Side, side_at, subst, suc, sym, Tip, toward, Tree, true, with_child, with_range, without_range, zero, ℕ}
 use Rattle.xl_treap.proofs.CutLemmas.{over-cut}
 use Rattle.xl_treap.proofs.FrameLemmas.{apart-sides, at-keeps, each-map, frame, node-same, off-side}
-use Rattle.xl_treap.proofs.OrderLemmas.{order-In, side}
-use Rattle.xl_treap.proofs.SideLemmas.{at-side, at-with, on-either, order-side, side-high, side-low}
+use Rattle.xl_treap.proofs.OrderLemmas.{at-side, at-with, on-either, order-In, order-side, side, side-high, side-low}
 use Rattle.xl_treap.proofs.WayLemmas.{every-down}
 
 pub down-In : (y : Range) (t : Tree) (k d : ℕ) → In y (ranges (down t k d)) → In y (ranges t)

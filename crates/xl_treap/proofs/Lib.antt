@@ -1,5 +1,4 @@
 mod Common
-mod SideLemmas
 pub mod WordLemmas
 pub mod SeekLemmas
 pub mod OrderLemmas

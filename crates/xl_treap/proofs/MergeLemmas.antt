@@ -1,8 +1,7 @@
 -- Two trees are made one.
 use Rattle.xl_treap.proofs.Common.{◌*◌, ◌++◌, ◌+◌, ◌-◌, ◌<◌, ◌∙◌, ◌∷◌, ◌≡◌, ◌≤◌, [], ap, append_assoc, arith, beyond, Bin, Bool, child, cond, down, end_key, Every, false, get_or-set_other, get_or-set_same, Half, High, inl, InOrder, inr, is_above, IsAt, IsHeap, length, length-set, link_at, List, Low, merge, merge_into, on_side, Over, Range, range_key, ranges, refl, side_at, slice_index, slice_set, subst, suc, sym, Tip, toward, Tree, true, ℕ}
 use Rattle.xl_treap.proofs.AboveLemmas.{above-total, over-chain}
-use Rattle.xl_treap.proofs.OrderLemmas.{of-order, order-le, order-of, order-wider, side, sizes, Within}
-use Rattle.xl_treap.proofs.SideLemmas.{side-high, side-low}
+use Rattle.xl_treap.proofs.OrderLemmas.{of-order, order-le, order-of, order-wider, side, side-high, side-low, sizes, Within}
 use Rattle.xl_treap.proofs.WayLemmas.{at-there, down-next, none-left}
 
 pub merge-none : (a : Tree) → merge a Tip ≡ a

@@ -5,8 +5,7 @@ use Rattle.xl_treap.proofs.FoundLemmas.{tree-is}
 use Rattle.xl_treap.proofs.FrameLemmas.{at-keeps, each-map, frame, linked-three, off-side}
 use Rattle.xl_treap.proofs.GraftLemmas.{alike, graft-resized, graft-without, Has, heap-graft, lift, resized-before, without-before}
 use Rattle.xl_treap.proofs.MergeLemmas.{merge-every, merge-heap, merge-over, merge-ranges}
-use Rattle.xl_treap.proofs.OrderLemmas.{apart-within, fit-end, order-apart, order-In, order-wider, side, sizes, within-In}
-use Rattle.xl_treap.proofs.SideLemmas.{at-side, on-either, order-side, side-high, side-low}
+use Rattle.xl_treap.proofs.OrderLemmas.{apart-within, at-side, fit-end, on-either, order-apart, order-In, order-side, order-wider, side, side-high, side-low, sizes, within-In}
 use Rattle.xl_treap.proofs.WayLemmas.{at-there, down-next, heap-down, order-down}
 
 -- lists without a range

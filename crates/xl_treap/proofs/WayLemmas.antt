@@ -1,7 +1,6 @@
 -- Ways down a tree in words.
 use Rattle.xl_treap.proofs.Common.{◌*◌, ◌+◌, ◌-◌, ◌<◌, ◌∙◌, ◌≡◌, ◌≤◌, arith, Bin, child, down, Every, get_or-set_other, get_or-set_same, inl, InOrder, inr, IsAt, IsHeap, length, length-set, link_at, List, on_side, Range, range_key, ranges, refl, Side, side_at, slice_index, slice_set, step_at, subst, suc, sym, Tip, toward, Tree, zero, ℕ}
-use Rattle.xl_treap.proofs.OrderLemmas.{side, sizes}
-use Rattle.xl_treap.proofs.SideLemmas.{at-side, on-either, order-side}
+use Rattle.xl_treap.proofs.OrderLemmas.{at-side, on-either, order-side, side, sizes}
 
 pub at-there : (words : List ℕ) (at : ℕ) (t : Tree) → IsAt words at t → 0 < at → 4 * (at - 1) + 4 ≤ length words
 at-there words at Tip i h = absurd (omega arith)

@@ -1,6 +1,6 @@
 -- What a way keeps, through each of its changes, over its number, cap, registers and slots.
 use Rattle.xl_way.proofs.Common.{◌&&◌, ◌+◌, ◌<◌, ◌==◌, ◌^◌, ◌∙◌, ◌∷◌, ◌≡◌, ◌≤◌, [], ap, ArePlaced, arith, begun_regs, Bool, cell, cond, entries_of, Entry, eq-eqb, false, find, get_or-replicate, get_or-set_other, get_or-set_same, has_key, is_held, is_some, IsKept, kept_of, length, length-replicate, length-set, List, map, moved, nat_lt, nat_tests, no_entry, None, not, occupant, Option, passing, pow_mono, pow_pos, reach, refl, regs_after, replicate, reworded, set, set-get_or, slot, slots_of, Some, subst, swapped, sym, true, way_hash, WayRegs, WayShape, with_entry, with_word, without_entry, without_key, without_occupant, word_in, word_of, ℕ}
-use Rattle.xl_list_lemmas.proofs.SameLemmas.{any-find}
+use Rattle.xl_list_lemmas.proofs.MemberLemmas.{any-find}
 use Rattle.xl_way.proofs.GrowthLemmas.{after-regs, begun-are, reach-there, slot-begun, slot-empty, slot-reach, slot-stays, slot-within}
 use Rattle.xl_way.proofs.SlotLemmas.{alone-at, entries-empty, entries-set, few-entries, find-at, length-with, others, others-none, split-at, without-with}
 

@@ -1,6 +1,6 @@
 use Rattle.xl_treap.proofs.Common.{◌-◌, ◌∙◌, ◌≤◌, arith, down, High, IsCut, List, Low, Over, Parts, slice_index, subst, sym, ℕ}
 use Rattle.xl_treap.proofs.CutLemmas.{cut-none, part-more, part-over, part-stop, part-there}
-use Rattle.xl_treap.proofs.SideLemmas.{side-high, side-low}
+use Rattle.xl_treap.proofs.OrderLemmas.{side-high, side-low}
 use Rattle.xl_treap.proofs.parting.part.Goals.{else-own-key, then-own-key}
 use Rattle.xl_treap.proofs.parting.part.Goals as goal
 

@@ -1,6 +1,6 @@
 use Rattle.xl_radix.proofs.Common.{◌-◌, ◌∙◌, ◌≡◌, ap, arith, Node, refl, rules, slice_set, Some, sym, up, ℕ}
 use Rattle.xl_radix.proofs.FreeLemmas.{not-none}
-use Rattle.xl_radix.proofs.NumberLemmas.{lowest-is, put-first-count, put-lowest}
+use Rattle.xl_radix.proofs.SlotLemmas.{lowest-is, put-first-count, put-lowest}
 use Rattle.xl_radix.proofs.StepLemmas.{at_node-in, count-fits, made-step-at}
 use Rattle.xl_radix.proofs.store.Store.make_node.Goals as goal
 

@@ -1,9 +1,8 @@
 use Rattle.xl_radix.proofs.Common.{if◌then◌else◌, ◌%◌, ◌*◌, ◌++◌, ◌+◌, ◌-◌, ◌/◌, ◌<◌, ◌∙◌, ◌∷◌, ◌≡◌, ◌≤◌, ◌⊎◌, [], ap, arith, Bool, covers, decode_of, drop, end_level, false_from_ne_true, find-In, find-passes, get_or-drop, image, image_from, In, in_nodes, inl, inr, IsAtNode, IsImage, IsRadixMapping, IsStore, Leaf, leaf_at_page, leaf_in, leaf_said, length, length-drop, level-low, level_of, List, nat_le, nat_tests, Node, None, number_of, Option, order_of, Pte, refl, slice_index, slice_index_or, Some, subst, suc, sym, true, unless_zero, up, up-from, Word, word_of, words_from, zero, ℕ}
 use Rattle.xl_radix.proofs.EndLemmas.{end-is, found-at, found-none, IsTable, seen-low}
 use Rattle.xl_radix.proofs.MeetLemmas.{covered}
-use Rattle.xl_radix.proofs.NumberLemmas.{number-only, number-some}
 use Rattle.xl_radix.proofs.ReadBackLemmas.{said-leaf}
-use Rattle.xl_radix.proofs.SlotLemmas.{at_node-word, in-nodes, in-nodes-leaf, leaf-in-some, pointer-low, Says, says, Under}
+use Rattle.xl_radix.proofs.SlotLemmas.{at_node-word, in-nodes, in-nodes-leaf, leaf-in-some, number-only, number-some, pointer-low, Says, says, Under}
 use Rattle.xl_radix.specs.Filled.{filled_from, filled_words}
 use Rattle.xl_radix.specs.Walk.{end_at, LeavesSaid, place_of, radix_back, reading, walk_end, WordsReadBack}
 use Rattle.xl_radix.specs.declared.walk_end.WalkEnd.{WalkEnd}
