@@ -93,11 +93,10 @@ owned-by frame r requests leaves known o =
     }
     go None a b =
         let P : Option Leaf → Option Leaf → Type 0 = λ p q. In o.leaf (with_held p q (held_leaves requests)) in
-        let R : Option Leaf → Type 0 = λ p. P p r.after in
         let i : P (Some o.leaf) None = inl refl in
         record {
           leaf = o.leaf;
-          member = In-right o.leaf leaves (held_leaves (r ∷ requests)) (subst R (sym b) (subst (λ (q : Option Leaf). P (Some o.leaf) q) (sym a) i));
+          member = In-right o.leaf leaves (held_leaves (r ∷ requests)) (subst (λ (p : Option Leaf). P p r.after) (sym b) (subst (λ (q : Option Leaf). P (Some o.leaf) q) (sym a) i));
           holds = o.holds;
         }
 

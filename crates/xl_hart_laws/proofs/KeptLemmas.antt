@@ -113,8 +113,7 @@ module _ {spec : HartSpec} {requests : List Request} {leaves : List Leaf} (h : H
           let k : h.waiting ≤ i = grind (arith, nat_tests) in
           let e : i ≡ suc (h.waiting - 1) = omega arith in
           let last = older-last (h.waiting - 1) requests leaves (record { before = None; after = None }) (let w = kept.waiting_in in omega arith) in
-          let Q : List Leaf → Type 0 = λ xs. In x xs in
-          let m : In x (undone (oldest h requests) (older (h.waiting - 1) requests leaves)) = subst Q last (subst (λ (n : ℕ). In x (older n requests leaves)) e is) in
+          let m : In x (undone (oldest h requests) (older (h.waiting - 1) requests leaves)) = subst (λ (xs : List Leaf). In x xs) last (subst (λ (n : ℕ). In x (older n requests leaves)) e is) in
           elim (undone-In (oldest h requests).before (oldest h requests).after (older (h.waiting - 1) requests leaves) x m) [
             | inl f ↦ absurd (other f)
             | inr j ↦ (h.waiting - 1, omega arith, j)

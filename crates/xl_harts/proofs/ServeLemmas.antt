@@ -15,8 +15,7 @@ pub record IsOnTheWay (all left : List Access) (s : HartsState) (r : Reply) (tab
 -- the current hart may be served
 pub served-now : (s : HartsState) (table : TableState) (h : Hart) → IsCurrent s table h → IsServed s.spec table h
 served-now s table h current =
-    let Q : Hart → Type 0 = λ g. IsServed s.spec s.table g in
-    subst (λ (t : TableState). IsServed s.spec t h) (sym current.table_is) (subst Q (sym current.hart_is) (hart-served s current.kept s.current))
+    subst (λ (t : TableState). IsServed s.spec t h) (sym current.table_is) (subst (λ (g : Hart). IsServed s.spec s.table g) (sym current.hart_is) (hart-served s current.kept s.current))
 
 -- an access of the current hart
 abbrev placed : HartsState → TableState → Hart → HartsState
@@ -37,9 +36,8 @@ one-current s a r t h kept is =
 pub way-goes-on : (all left : List Access) (a : Access) (s : HartsState) (r q : Reply) (t u : TableState) (h g : Hart) → IsOnTheWay all (a ∷ left) s r t h → IsAccess a.va a.kind q t u h g → IsOnTheWay all left s q u g
 way-goes-on all left a s r q t u h g way is =
     let v = way.at in
-    let P : TableState → Type 0 = λ x. IsAccess a.va a.kind q x u h g in
     let Q : Hart → Type 0 = λ x. IsAccess a.va a.kind q v.table u x g in
-    let here : IsAccess a.va a.kind q v.table u (current_hart v) g = subst Q way.current.hart_is (subst P way.current.table_is is) in
+    let here : IsAccess a.va a.kind q v.table u (current_hart v) g = subst Q way.current.hart_is (subst (λ (x : TableState). IsAccess a.va a.kind q x u h g) way.current.table_is is) in
     record {
       at = after_own (event.Access a.va a.kind) v;
       current = one-current v a q u g way.current.kept here;

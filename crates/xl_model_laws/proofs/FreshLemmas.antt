@@ -134,8 +134,7 @@ made-shape : (row : Row) (c : Change) (leaves : List Leaf) (shape : Shape) (kept
     → CachesFresh shape kept leaves → ShapeFull shape kept leaves → AfterFresh c leaves shape kept (shape_after c leaves shape)
 unfolding AfterFresh
 made-shape row c leaves (Radix levels spaces nodes) kept m s room fresh full =
-    let P : Shape → Type 0 = λ z. AfterFresh c leaves (Radix levels spaces nodes) kept z in
-    subst P (sym (radix-after c leaves levels spaces nodes)) (made-radix row c leaves levels spaces nodes kept room fresh full)
+    subst (λ (z : Shape). AfterFresh c leaves (Radix levels spaces nodes) kept z) (sym (radix-after c leaves levels spaces nodes)) (made-radix row c leaves levels spaces nodes kept room fresh full)
 made-shape row c leaves (Chained group buckets entries tags) kept m s room fresh full =
     let new = chained-after c leaves group buckets entries tags in
     subst (λ (z : Shape). AfterFresh c leaves (Chained group buckets entries tags) kept z) (sym new.1) (any-chained group buckets entries new.0 _ (changed c leaves))
@@ -176,8 +175,7 @@ change-kept : (row : Row) (c : Change) (s : RowState) (v : Verdict) → verdict 
 unfolding verdict table_after table_made AfterFresh
 change-kept row c s Made is sound k =
     let both = made-shape row c s.table.leaves s.table.shape s.table.caches k.mapping sound (made-room _ _ is) k.caches k.full in
-    let P : Verdict → Type 0 = λ v. Kept row (record s { table = after_by v c s.table; arrays = purged_at row c s; counts = (changed_by (answer_by Made c s.table) row c s).counts }) in
-    subst P (sym is) (record {
+    subst (λ (v : Verdict). Kept row (record s { table = after_by v c s.table; arrays = purged_at row c s; counts = (changed_by (answer_by Made c s.table) row c s).counts })) (sym is) (record {
       mapping = kept-sound row s.table.leaves c k.mapping sound;
       arrays = changed-fresh row c s.arrays s.table.leaves k.mapping sound k.arrays;
       caches = both.0;

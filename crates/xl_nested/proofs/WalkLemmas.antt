@@ -116,8 +116,7 @@ module _ (level node page : ℕ) (kind : Kind) (s : NestState) (at : IsAt level 
 
     pub small-after : (word : ℕ) (to : Option ℕ) → to ≡ frame_said kind word → IsEntry level page (entry.Small word) s.guest.stage → with_last to (stepped (s.guest.base + node) s) ≡ walked_from level page kind s
     small-after word to e is =
-        let P : Option ℕ → Type 0 = λ o. with_last o (stepped (s.guest.base + node) s) ≡ walked_from level page kind s in
-        subst P (sym (e ∙ small-frame page word kind)) (leaf-after (small_leaf 0 page word) is)
+        subst (λ (o : Option ℕ). with_last o (stepped (s.guest.base + node) s) ≡ walked_from level page kind s) (sym (e ∙ small-frame page word kind)) (leaf-after (small_leaf 0 page word) is)
 
     pub nothing-reply : IsEntry level page entry.Nothing s.guest.stage → nest.PageFault ≡ reply_from level page kind s
     nothing-reply (last, found) =

@@ -24,6 +24,5 @@ pub more_read : (fs gs : Option Files) (name xs : List ℕ) (at n w : ℕ) (old 
     → w ≤ n → n ≤ length new → after ≡ xs ++ take w new → IfSome fs (λ f. IsFrontOf (file_of f name) after)
 more_read None gs name xs at n w old new after same front e tells h k a = tt
 more_read (Some f) gs name xs at n w old new after same front e tells h k a =
-    let U : ℕ → Type 0 = λ m. ReadsFile (file_of f name) m (Ok n) old new in
-    let known = subst U e (subst (λ (o : Option Files). IfSome o (λ f. ReadsFile (file_of f name) at (Ok n) old new)) same tells) in
+    let known = subst (λ (m : ℕ). ReadsFile (file_of f name) m (Ok n) old new) e (subst (λ (o : Option Files). IfSome o (λ f. ReadsFile (file_of f name) at (Ok n) old new)) same tells) in
     rw a (front_more (file_of f name) xs n w old new front known h k)

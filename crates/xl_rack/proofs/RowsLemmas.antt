@@ -100,10 +100,9 @@ module _ {K : Type 0} (sink : SinkMeaning K) where
       → Going answers item areas (i + 1) p r k m
   one-more answers item areas i p q r k l m h going x =
       let (v, e) = the-row p i h in
-      let P : List ℕ → Type 0 = λ t. SinkAfter sink (line_where answers t) k m true in
       record {
         rows_are = x.rows_are ∙ ap (at_place (served_after item areas) i) going.rows_are ∙ next_place item areas p i h;
-        writes = subst P (sym (lines-next item areas p i v e)) (next-known answers item areas i p q r k l m true v e h going x);
+        writes = subst (λ (t : List ℕ). SinkAfter sink (line_where answers t) k m true) (sym (lines-next item areas p i v e)) (next-known answers item areas i p q r k l m true v e h going x);
       }
 
   -- all rows were served
@@ -140,9 +139,8 @@ module _ {K : Type 0} (sink : SinkMeaning K) where
       let (v, e) = the-row rows i h in
       let same : row ≡ v.row = some-of _ _ v named e in
       let equal : counts ≡ v.state.counts = some-of _ _ v counted e in
-      let P : List ℕ → Type 0 = λ t. SinkAfter sink t k m whole in
       let second : SinkAfter sink (row_line v.row.name v.state.counts) l m whole = rw (same, equal) at next in
-      subst P (sym (row-lines-next rows i v e)) (sink_then sink (row_lines (take i rows)) (row_line v.row.name v.state.counts) k l m whole first second)
+      subst (λ (t : List ℕ). SinkAfter sink t k m whole) (sym (row-lines-next rows i v e)) (sink_then sink (row_lines (take i rows)) (row_line v.row.name v.state.counts) k l m whole first second)
 
   pub rows-cut : (rows : List Served) (i : ℕ) (k l : K) → SinkAfter sink (row_lines (take i rows)) k l false → SinkAfter sink (row_lines rows) k l false
   rows-cut rows i k l first =

@@ -138,8 +138,7 @@ whole-is order.G1 a = omega arith
 pub leaf-in-is : (space first : ℕ) (o : Order) (r : Range) (i : IsLeafIn space first o r) → leaf_in first r ≡ leap i.before (first_leaf r)
 unfolding leap
 leaf-in-is space first o r i =
-    let P : Order → Type 0 = λ q. first - r.start ≡ i.before * pages_of q in
-    let skip : first - r.start ≡ i.before * pages_of r.order = subst P (sym i.order_same) (sizes space first o r i).before_is in
+    let skip : first - r.start ≡ i.before * pages_of r.order = subst (λ (q : Order). first - r.start ≡ i.before * pages_of q) (sym i.order_same) (sizes space first o r i).before_is in
     rw (skip, whole-is r.order i.before) refl
 
 some-of : {A : Type 0} (o : Option A) → is_some o ≡ true → (x : A) × (o ≡ Some x)

@@ -137,7 +137,6 @@ has-both space first to o n t between new m e =
     let h : HasRanges (with_leaf new (spread t.kept)) t between = has-ranges t between (join (range_of_leaf new) t.kept) (with_leaf new (spread t.kept)) e a in
     let keys : (z : Leaf) → In z (spread t.kept) → leaf_key z ≡ leaf_key new → ⊥ = λ z i. clear-key new z t.kept m.whole.held m.clear i in
     let still : leaf_named space first o (with_leaf new (spread t.kept)) ≡ Some m.old = still-named space first o new (spread t.kept) (λ f. m.other (sym m.that.first_same ∙ f)) keys ∙ m.named in
-    let N : List Leaf → Type 0 = λ xs. IsNamed space to o xs in
     let S : ℕ → Type 0 = λ s. IsNamed s to o (with_leaf new (spread t.kept)) in
     let F : ℕ → Type 0 = λ f. IsNamed new.space f o (with_leaf new (spread t.kept)) in
     let O : Order → Type 0 = λ q. IsNamed new.space new.first q (with_leaf new (spread t.kept)) in
@@ -145,7 +144,7 @@ has-both space first to o n t between new m e =
       held = h.held;
       leaves = h.leaves;
       old_named = ap (λ (xs : List Leaf). is_some (leaf_named space first o xs)) h.leaves ∙ ap is_some still;
-      new_named = subst N (sym h.leaves) (subst S m.that.space_same (subst F m.that.first_same (subst O m.that.order_same (new-named new (spread t.kept)))));
+      new_named = subst (λ (xs : List Leaf). IsNamed space to o xs) (sym h.leaves) (subst S m.that.space_same (subst F m.that.first_same (subst O m.that.order_same (new-named new (spread t.kept)))));
     }
 
 first-low : (space first : ℕ) (o : Order) (x : Leaf) (rs : List Range) → IsHeld 0 rs → leaf_named space first o (spread rs) ≡ Some x → first < 2 ^ 52

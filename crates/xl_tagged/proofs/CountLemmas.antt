@@ -135,8 +135,7 @@ key-tagged f size values tags xs room c h k key i = found (any-In (lies_in size 
     found (x, j, t) =
         let small : is_smaller size x.order ≡ true = grind (arith, nat_tests) in
         let lies : key_in size x ≡ key = grind (arith, nat_tests) in
-        let P : ℕ → Type 0 = λ n. In n (map (section_of f size) tags) in
-        subst P (section-is f size x (h.fit x j).aligned small ∙ lies) (In-map (section_of f size) (leaf_tag (group_of f) x) tags (h.tagged x j))
+        subst (λ (n : ℕ). In n (map (section_of f size) tags)) (section-is f size x (h.fit x j).aligned small ∙ lies) (In-map (section_of f size) (leaf_tag (group_of f) x) tags (h.tagged x j))
 
 -- no more leaves than slots
 mapping-short : (xs : List Leaf) → length (mapping_of xs) ≤ length xs
@@ -210,10 +209,9 @@ has-room back f size values tags tags' x xs room c h k fit stays here few small 
     place : is_smaller size x.order ≡ true → count_of (key_in size x) c.counts ≡ 0 → length c.counts < c.room
     place t absent =
         let new : In (key_in size x) (keys_of c.counts) → ⊥ = λ i. counted (key_in size x) c.counts k.are i absent in
-        let P : ℕ → Type 0 = λ n. In n (map (section_of f size) tags') in
         let n : suc (length (keys_of c.counts)) ≤ length (map (section_of f size) tags') = once-short (key_in size x ∷ keys_of c.counts) (map (section_of f size) tags') (new, k.are.once)
         (λ key i. elim i [
-          | inl e ↦ subst P (section-is f size x fit.aligned t ∙ sym e) (In-map (section_of f size) (leaf_tag (group_of f) x) tags' here)
+          | inl e ↦ subst (λ (n : ℕ). In n (map (section_of f size) tags')) (section-is f size x fit.aligned t ∙ sym e) (In-map (section_of f size) (leaf_tag (group_of f) x) tags' here)
           | inr j ↦ moved key tags stays (key-tagged f size values tags xs room c h k key j)
         ]) in
         let a : length (keys_of c.counts) ≡ length c.counts = length-map c.counts (λ (d : Count). d.key) in

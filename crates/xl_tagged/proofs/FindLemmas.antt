@@ -82,8 +82,7 @@ module _ (back : MadeWordsReadBack) (f : Form) (s page : ℕ) (values : ℕ → 
         | true ↦ λ t.
             let i : In x leaves = find-In (covers s page) x leaves w in
             let a : IsAt f (tag_of (group_of f) s x.order page) (slot_of f x.order page) x = covers-at f s page x (h.fit x i).aligned (find-passes (covers s page) x leaves w) in
-            let P : Order → Type 0 = λ q. IsAt f (tag_of (group_of f) s q page) (slot_of f q page) x in
-            absurd (leaf-some back x (h.fit x i) (sym (word-of o x i (subst P (orders-same x.order o t) a)) ∙ zero))
+            absurd (leaf-some back x (h.fit x i) (sym (word-of o x i (subst (λ (q : Order). IsAt f (tag_of (group_of f) s q page) (slot_of f q page) x) (orders-same x.order o t) a)) ∙ zero))
         | false ↦ λ t. refl
       ] refl
 

@@ -97,8 +97,7 @@ take-held f values values' tags tags' tag slot xs ys h some w ts l = record {
         | true ↦ λ k.
             let same : t ≡ tag = grind (arith, nat_tests) in
             let used : word_at f values' tag (slot_of f z.order z.first) ≡ 0 → ⊥ = (λ e. some z j.0 (sym (word z i) ∙ ap (λ n. word_at f values' n (slot_of f z.order z.first)) same ∙ e)) in
-            let Q : ℕ → Type 0 = λ n. In n tags in
-            subst (λ (n : ℕ). In n tags') (sym same) (ts.kept (slot_of f z.order z.first) (slot-low f (z.first / pages_of z.order)) used (subst Q same (h.tagged z j.0)))
+            subst (λ (n : ℕ). In n tags') (sym same) (ts.kept (slot_of f z.order z.first) (slot-low f (z.first / pages_of z.order)) used (subst (λ (n : ℕ). In n tags) same (h.tagged z j.0)))
         | false ↦ λ k. ts.stays t (h.tagged z j.0) (λ e. absurd (grind (arith, nat_tests)))
       ] refl;
   slot = slots;

@@ -100,8 +100,7 @@ In-under : (f : Form) (values : ℕ → List ℕ) (tags : List ℕ) (tag i : ℕ
 unfolding leaves_under
 In-under f values [] tag i x h l e = absurd h
 In-under f values (t ∷ ts) tag i x (inl h) l e =
-    let P : ℕ → Type 0 = λ m. In x (slot_leaves f values m (group_of f)) in
-    In-left x (slot_leaves f values t (group_of f)) (leaves_under f values ts) (subst P h (In-slots f values tag (group_of f) i x l e))
+    In-left x (slot_leaves f values t (group_of f)) (leaves_under f values ts) (subst (λ (m : ℕ). In x (slot_leaves f values m (group_of f))) h (In-slots f values tag (group_of f) i x l e))
 In-under f values (t ∷ ts) tag i x (inr h) l e = In-right x (slot_leaves f values t (group_of f)) (leaves_under f values ts) (In-under f values ts tag i x h l e)
 
 -- a list whose members have keys of their own, and its mapping

@@ -31,8 +31,7 @@ hung-under base w new low high k p b (Bin n x l r) s i o so link u off =
     let c : Side = side_at (range_key x) k in
     let keep = at-keeps base (suc p) (Bin n x l r) i in
     let G : ℕ → Type 0 = λ p. IsHung w new p (side_in w p k) b → Off p s → Hung base new c p (Bin n x l r) s in
-    let L : Side → Type 0 = λ z. IsHung w new n z b in
-    subst G m (λ link off. hung base w new low high c n b x l r s keep o so (subst L (hung-side base w new low high c n b x l r s keep o so k) link) u off
+    subst G m (λ link off. hung base w new low high c n b x l r s keep o so (subst (λ (z : Side). IsHung w new n z b) (hung-side base w new low high c n b x l r s keep o so k) link) u off
     (at-side (beyond c) base (suc p) n x l r i)) link off
 
 -- what is after a tree was attached `depth` steps down a way

@@ -223,9 +223,8 @@ pub opened : (words free : List ℕ) (nodes count room : ℕ) → words ≡ repl
 opened words free nodes count room w f n few room-in =
     let size : length words ≡ 4 * nodes = ap length w ∙ length-replicate (4 * nodes) 0 in
     let len : length free ≡ nodes = ap length f ∙ upto-length nodes in
-    let O : List ℕ → Type 0 = λ fs. Once fs in
     let each : (e : ℕ) → In e free → IsEmpty words e = (λ e i.
     let less : e < nodes = upto-In e nodes (subst (λ (fs : List ℕ). In e fs) f i) in
     record { there = omega arith; none = ap (λ (ws : List ℕ). slice_index ws (4 * e + 1)) w ∙ get_or-replicate (4 * nodes) (4 * e + 1) 0 0 (omega arith) }) in
-    let h = placed-treap words 0 nodes free Tip (record { at = refl; heap = tt; apart = tt }) size (omega arith) (subst O (sym f) (upto-once nodes)) each in
+    let h = placed-treap words 0 nodes free Tip (record { at = refl; heap = tt; apart = tt }) size (omega arith) (subst (λ (fs : List ℕ). Once fs) (sym f) (upto-once nodes)) each in
     subst (λ (m : ℕ). IsKept words 0 m free room) (sym n) (h.treap, few, room-in)

@@ -112,11 +112,10 @@ module _ (base old new : List ℕ) (low high : ℕ) (s : Side) (p b : ℕ) (x : 
       (λ m h. line-chain base old new m (so.same m h.0) (linked-line old new p _ _ m link h.1))
       (each-both (λ m. Off m (on_side s l r)) (λ m. m ≡ p → ⊥) (on_side (beyond s) l r)
       (apart-sides base p low high x l r keeps order s) (off-side base p low high x l r keeps order (beyond s))) in
-      let N : ℕ → Type 0 = λ z. IsAt new z u in
       record {
         here = at-with s new p x l r u
             (node-same old new p x link.len (λ j h. linked-three old new p _ _ link p j h) node)
-            (subst N (sym links.0) (frame old new b u link.len (each-map (λ m. m ≡ p → ⊥) (SameLine old new) u (λ m ne. linked-line old new p _ _ m link ne) off-p) under))
+            (subst (λ (z : ℕ). IsAt new z u) (sym links.0) (frame old new b u link.len (each-map (λ m. m ≡ p → ⊥) (SameLine old new) u (λ m ne. linked-line old new p _ _ m link ne) off-p) under))
             (subst (λ (z : ℕ). IsAt new z (on_side (beyond s) l r)) (sym far) (frame base new (link_at (beyond s) base p) (on_side (beyond s) l r) (link.len ∙ so.len) stay a));
         off = record {
           len = link.len ∙ so.len;

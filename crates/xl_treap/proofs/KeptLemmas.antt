@@ -46,8 +46,7 @@ held-more old new root result nodes n front t x k m =
     let once = once-last front n k.free_once in
     let c = k.count in
     let l : length (ranges m.tree) ≡ suc (length (ranges t)) = ap length m.holds ∙ with-length x (ranges t) in
-    let P : List Range → Type 0 = λ zs. Holds new result nodes front zs in
-    subst P m.holds (placed-treap new result nodes front m.tree m.placed (m.len ∙ k.size) (omega (arith, length-append front (n ∷ []))) once.0
+    subst (λ (zs : List Range). Holds new result nodes front zs) m.holds (placed-treap new result nodes front m.tree m.placed (m.len ∙ k.size) (omega (arith, length-append front (n ∷ []))) once.0
     (λ e i. m.others e (λ q. let N : ℕ → Type 0 = λ z. In z front in once.1 (subst N q i)) (k.empty e (In-left e front (n ∷ []) i))))
 
 -- one range less, whose node is free

@@ -107,8 +107,7 @@ more-nodes words path t k depth at u less here i h = elim (side i depth) [
   | inl lt ↦ let ne : i ≡ depth → ⊥ = (λ q. omega arith) in
       subst (λ (a : ℕ). Half words a k (down t k i)) (sym (get_or-set_other path depth i at 0 ne)) (u i lt)
   | inr ge ↦ let q : depth ≡ i = omega arith in
-      let I : ℕ → Type 0 = λ j. Half words (slice_index (slice_set path depth at) j) k (down t k j) in
-      subst I q (subst (λ (a : ℕ). Half words a k (down t k depth)) (sym (get_or-set_same path depth at 0 less)) here)
+      subst (λ (j : ℕ). Half words (slice_index (slice_set path depth at) j) k (down t k j)) q (subst (λ (a : ℕ). Half words a k (down t k depth)) (sym (get_or-set_same path depth at 0 less)) here)
 ]
 
 -- the result of a step down, where the first tree's top is above, or the second's

@@ -227,8 +227,7 @@ module _ (w0 path : List ℕ) (root nodes : ℕ) (t : Tree) (k depth at : ℕ) (
   module _ (w1 : List ℕ) (top : ℕ) (risen : IsRisen w0 w1 (merge (tree_at nodes w0 (link_at Low w0 (at - 1))) (tree_at nodes w0 (link_at High w0 (at - 1)))) top) where
     both : IsRisen w0 w1 (merge low high) top
     both =
-        let B : Tree → Type 0 = λ b. IsRisen w0 w1 (merge low b) top in
-        subst B (under-is High) (subst (λ (a : Tree). IsRisen w0 w1 (merge a (tree_at nodes w0 (link_at High w0 (at - 1)))) top) (under-is Low) risen)
+        subst (λ (b : Tree). IsRisen w0 w1 (merge low b) top) (under-is High) (subst (λ (a : Tree). IsRisen w0 w1 (merge a (tree_at nodes w0 (link_at High w0 (at - 1)))) top) (under-is Low) risen)
 
     under-off : SameOff (down t k depth) w0 w1
     under-off =

@@ -77,10 +77,9 @@ module _ {K : Type 0} (sink : SinkMeaning K) where
   line-written sets i rows curves row c k l m whole h named at first next =
       let (v, e) = nth rows i h in
       let same : row ≡ v.row = some-of (slice_get rows i) (λ (w : Served). row ≡ w.row) v named e in
-      let P : List ℕ → Type 0 = λ t. SinkAfter sink t k m whole in
       let line = line_of v.row.name sets c in
       let second : SinkAfter sink line l m whole = subst (λ (r : Row). SinkAfter sink (line_of r.name sets c) l m whole) same next in
-      subst P (sym (lines-next sets i rows curves v c e at)) (sink_then sink (curve_lines sets (take i rows) curves) line k l m whole first second)
+      subst (λ (t : List ℕ). SinkAfter sink t k m whole) (sym (lines-next sets i rows curves v c e at)) (sink_then sink (curve_lines sets (take i rows) curves) line k l m whole first second)
 
   -- a put failed in the lines of the first rows
   lines-cut : (sets i : ℕ) (rows : List Served) (curves : List HitCurve) (k l : K) → SinkAfter sink (curve_lines sets (take i rows) curves) k l false

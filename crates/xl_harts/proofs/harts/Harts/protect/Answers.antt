@@ -11,7 +11,6 @@ protect-requires c =
     let i = c.self.inside in
     let s : HartsState = state_of i.spec (row_table 3 i.table) i.requests.items i.harts.items i.current i.accepted i.refused in
     let ruled : refusal_of (event.Protect c.args.space c.args.va c.args.order c.args.perm) s ≡ None = rw (← c.self.view_is) at c.requires.ruled in
-    let known = protect-change s c.args.space c.args.va c.args.order c.args.perm in
     let named = old-named s c.self.invariant.kept c.args.space c.args.va c.args.order c.args.old (there-protect s c.args.space c.args.va c.args.order c.args.perm (rule-none s (event.Protect c.args.space c.args.va c.args.order c.args.perm) ruled)) (rw (← c.self.view_is) at c.requires.found) in
     rw c.page_of.ensures (ap is_some named)
 
@@ -21,7 +20,6 @@ put-requires c =
     let s : HartsState = state_of i.spec (row_table 3 i.table) i.requests.items i.harts.items i.current i.accepted i.refused in
     let ruled : refusal_of (event.Protect c.args.space c.args.va c.args.order c.args.perm) s ≡ None = rw (← c.self.view_is) at c.requires.ruled in
     let known = protect-change s c.args.space c.args.va c.args.order c.args.perm in
-    let named = old-named s c.self.invariant.kept c.args.space c.args.va c.args.order c.args.old (there-protect s c.args.space c.args.va c.args.order c.args.perm (rule-none s (event.Protect c.args.space c.args.va c.args.order c.args.perm) ruled)) (rw (← c.self.view_is) at c.requires.found) in
     record {
       room = rw c.self.invariant.room (queue-room s c.self.invariant.kept (event.Protect c.args.space c.args.va c.args.order c.args.perm) (Protect c.args.space (page_of mode.Sv39 c.args.va) c.args.order c.args.perm) ruled known);
       queues = rw c.deref_mut.ensures.value (all-short s c.self.invariant.kept);

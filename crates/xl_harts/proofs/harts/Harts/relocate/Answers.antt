@@ -26,7 +26,6 @@ put-requires c =
     let s : HartsState = state_of i.spec (row_table 3 i.table) i.requests.items i.harts.items i.current i.accepted i.refused in
     let ruled : refusal_of (event.Move c.args.space c.args.from c.args.to c.args.order) s ≡ None = rw (← c.self.view_is) at c.requires.ruled in
     let known = move-change s c.args.space c.args.from c.args.to c.args.order in
-    let named = old-named s c.self.invariant.kept c.args.space c.args.from c.args.order c.args.old (there-move s c.args.space c.args.from c.args.to c.args.order (rule-none s (event.Move c.args.space c.args.from c.args.to c.args.order) ruled)) (rw (← c.self.view_is) at c.requires.found) in
     record {
       room = rw c.self.invariant.room (queue-room s c.self.invariant.kept (event.Move c.args.space c.args.from c.args.to c.args.order) (Relocate c.args.space (page_of mode.Sv39 c.args.from) (page_of mode.Sv39 c.args.to) c.args.order) ruled known);
       queues = rw c.deref_mut.ensures.value (all-short s c.self.invariant.kept);

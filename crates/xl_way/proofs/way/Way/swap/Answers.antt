@@ -54,8 +54,7 @@ invariant_of-self-else-left-eq0 c =
     let left : c.exchange-left.result ≡ cell s.slots.items at = rw c.deref_mut.ensures.value at c.exchange-left.ensures.left in
     let full : 0 < (cell s.slots.items at).word = (let w = ap (λ (e : Entry). e.word) left in let f = c.if-left-eq0.false in omega arith) in
     let done = swap-back s.places.number s.cap s.places.regs s.slots.items at x c.self.invariant.placed less c.slot-at.ensures.is c.requires full in
-    let K : List Entry → Type 0 = λ xs. IsKept s.places.number s.cap s.places.regs xs s.used in
-    subst K (sym items) (kept-set s.places.number s.cap s.places.regs s.slots.items s.used at x s.used c.self.invariant less
+    subst (λ (xs : List Entry). IsKept s.places.number s.cap s.places.regs xs s.used) (sym items) (kept-set s.places.number s.cap s.places.regs s.slots.items s.used at x s.used c.self.invariant less
     (λ f. sym c.slot-at.ensures.is) (λ z. absurd (let r = c.requires in omega arith)) (c.self.invariant.count ∙ sym done.same))
 
 pub returns-else-left-eq0 : goal.returns-else-left-eq0
