@@ -9,7 +9,6 @@ pub mod ValueLemmas
 pub mod RowLemmas
 pub mod CountLemmas
 pub mod PurgeLemmas
-pub mod FenceLemmas
 pub mod IndexLemmas
 pub mod HoldLemmas
 pub mod WordsLemmas
@@ -17,7 +16,6 @@ pub mod ComparedLemmas
 pub mod VerdictLemmas
 pub mod StepLemmas
 pub mod NamedLemmas
-pub mod GiveLemmas
 pub mod CacheLemmas
 pub mod SoleLemmas
 mod SectionLemmas
