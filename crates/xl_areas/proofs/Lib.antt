@@ -1,5 +1,4 @@
 mod Common
 mod CountLemmas
 mod CutLemmas
-mod LaterLemmas
 mod IndexLemmas

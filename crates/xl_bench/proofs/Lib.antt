@@ -1,3 +1,1 @@
-mod Common
 mod MachineLemmas
-mod WordLemmas

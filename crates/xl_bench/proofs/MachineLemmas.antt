@@ -1,10 +1,17 @@
 -- What a form that serves rows leaves of the machines.
-use Rattle.xl_bench.proofs.Common.{◌∙◌, ◌≡◌, ◌⊎◌, [], Account, AreOpened, Ends, Err, IfSome, inl, inr, IsUnserved, List, MachineStates, no_machines, Ok, OnOk, Option, refl, Result, status_by, subst, sym, known_one, ℕ}
+use Rattle.std.proofs.Common.{◌∙◌, ◌≡◌, ◌⊎◌, [], inl, inr, List, refl, subst, sym, ℕ}
+use Rattle.std.specs.Option.{IfSome}
+use Rattle.std.specs.Prelude.{Err, Ok, OnOk, Option, Result}
+use Rattle.xl_course.proofs.KnownLemmas.{known_one}
+use Rattle.xl_course.specs.Accounts.{Account, Ends}
+use Rattle.xl_course.specs.Stops.{status_by}
 use Rattle.xl_course.specs.declared.stop.Stop.{Stop}
 use Rattle.xl_hart_model.specs.Harts.{HartsState}
 use Rattle.xl_model.specs.Scenes.{Served}
 use Rattle.xl_nested_model.specs.Nested.{NestState}
 use Rattle.xl_outside.specs.Folders.{Files}
+use Rattle.xl_serving.specs.Plain.{AreOpened}
+use Rattle.xl_bench.specs.Machines.{IsUnserved, MachineStates, no_machines}
 use Rattle.xl_course.specs.declared.status.Status.TheVariants as status
 use Rattle.xl_course.specs.declared.stop.Stop.TheVariants as why
 use Rattle.xl_model.specs.declared.fault.InputFault.TheVariants as fault

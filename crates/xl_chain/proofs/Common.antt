@@ -8,9 +8,8 @@ pub use Rattle.std.specs.List.{list_any}
 pub use Rattle.std.specs.Prelude.{◌||◌, filter, find, IfSome, is_some}
 pub use Rattle.std.specs.Vec.{vec_capacity, vec_len, with_items}
 pub use Rattle.xl_list_lemmas.proofs.BucketLemmas.{length-by, unequal}
-pub use Rattle.xl_list_lemmas.proofs.MemberLemmas.{any-false, any-In, filter-In, filter-passes, find-In, find-only, find-passes, In-any, In-append, In-left, In-map, In-right, map-In}
+pub use Rattle.xl_list_lemmas.proofs.MemberLemmas.{any-false, any-In, filter-In, filter-passes, find-In, find-only, find-passes, In-any, In-append, In-left, In-map, In-right, map-In, pick-no, pick-yes}
 pub use Rattle.xl_list_lemmas.proofs.OnceLemmas.{once-last, once-more}
-pub use Rattle.xl_list_lemmas.proofs.SameLemmas.{pick-no, pick-yes}
 pub use Rattle.xl_list_lemmas.specs.Buckets.{gather, in_front_by}
 pub use Rattle.xl_list_lemmas.specs.Members.{In, Once}
 pub use Rattle.xl_model.specs.Chains.{bucket_of, examined, has_tag}

@@ -81,12 +81,11 @@ gather-front tag n f g x (suc m) p le less here others =
     elim (bucket_of n (tag x) == m) as (λ t. (bucket_of n (tag x) == m) ≡ t → gather g m ++ g m ≡ in_front_by tag n x (gather f m ++ f m)) [
       | true ↦ λ t.
           let e : bucket_of n (tag x) ≡ m = grind (arith, nat_tests) in
-          let P : ℕ → Type 0 = λ b. g b ≡ x ∷ f b in
           let a : gather g m ≡ gather f m = gather-same f g m (λ b l. others b (omega arith) (λ q. omega arith)) in
           let c : in_front_by tag n x (gather f m ++ f m) ≡ gather f m ++ in_front_by tag n x (f m) =
           front-past tag n x (gather f m) (f m) (λ h i. let r = gather-In f h m i in let q = p.at r.0 h (omega (arith, r.1)) r.2 in omega (arith, r.1, q, e)) in
           let d : in_front_by tag n x (f m) ≡ x ∷ f m = front-here tag n x (f m) (λ h i. let q = p.at m h (omega arith) i in omega (arith, q, e)) in
-          ap (λ xs. xs ++ g m) a ∙ ap (λ xs. gather f m ++ xs) (subst P e here ∙ sym d) ∙ sym c
+          ap (λ xs. xs ++ g m) a ∙ ap (λ xs. gather f m ++ xs) (subst (λ (b : ℕ). g b ≡ x ∷ f b) e here ∙ sym d) ∙ sym c
       | false ↦ λ t.
           let l : bucket_of n (tag x) < m = grind (arith, nat_tests) in
           let c : in_front_by tag n x (gather f m ++ f m) ≡ in_front_by tag n x (gather f m) ++ f m =
@@ -152,9 +151,8 @@ gather-tags {A} tag q f b (suc n) less here other =
     ap (filter q) m ∙ filter-append q (map tag (gather f n)) (map tag (f n)) ∙
     elim (b == n) as (λ t. (b == n) ≡ t → filter q (map tag (gather f n)) ++ filter q (map tag (f n)) ≡ map tag (f b)) [
       | true ↦ λ t. let e : b ≡ n = grind (arith, nat_tests) in
-          let P : ℕ → Type 0 = λ k. (x : A) → In x (f k) → q (tag x) ≡ true in
           ap (λ xs. xs ++ filter q (map tag (f n))) (filter-none tag q (gather f n) (λ z i. let r = gather-In f z n i in other r.0 z (omega (arith, r.1)) (λ k. omega (arith, r.1, k, e)) r.2))
-          ∙ filter-every tag q (f n) (subst P e here) ∙ ap (λ (k : ℕ). map tag (f k)) (sym e)
+          ∙ filter-every tag q (f n) (subst (λ (k : ℕ). (x : A) → In x (f k) → q (tag x) ≡ true) e here) ∙ ap (λ (k : ℕ). map tag (f k)) (sym e)
       | false ↦ λ t. let l : b < n = grind (arith, nat_tests) in
           ap (λ xs. filter q (map tag (gather f n)) ++ xs) (filter-none tag q (f n) (λ z i. other n z (omega arith) (λ k. omega (arith, k, l)) i))
           ∙ append-nil (filter q (map tag (gather f n)))

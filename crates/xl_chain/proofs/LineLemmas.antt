@@ -12,9 +12,7 @@ held-back s words h i =
     let r = gather-In (held_at s words) h s.buckets i in
     let m = map-In (held_in s words) h (chain_in s words r.0) r.2 in
     let e : m.0 ≡ h.entry = sym (ap (λ (x : Held). x.entry) m.2) in
-    let P : ℕ → Type 0 = λ x. In x (chain_in s words r.0) in
-    let Q : ℕ → Type 0 = λ x. h ≡ held_in s words x in
-    (r.0, r.1, subst P e m.1, subst Q e m.2)
+    (r.0, r.1, subst (λ (x : ℕ). In x (chain_in s words r.0)) e m.1, subst (λ (x : ℕ). h ≡ held_in s words x) e m.2)
 
 apart-one : (tag : ℕ → ℕ) (es : List ℕ) (x y : ℕ) → Apart tag es → In x es → In y es → tag x ≡ tag y → x ≡ y
 apart-one tag [] x y a i j t = absurd i
@@ -34,8 +32,7 @@ held-single s words free t =
           let b = held-back s words h j in
           let tags : tag_in s words g.entry ≡ tag_in s words h.entry = sym (ap (λ (x : Held). x.tag) a.3) ∙ e ∙ ap (λ (x : Held). x.tag) b.3 in
           let same : a.0 ≡ b.0 = sym (t.placed a.0 g.entry a.1 a.2) ∙ ap (bucket_of s.buckets) tags ∙ t.placed b.0 h.entry b.1 b.2 in
-          let P : ℕ → Type 0 = λ k. In g.entry (chain_in s words k) in
-          one g h i j (apart-one (tag_in s words) (chain_in s words b.0) g.entry h.entry (t.apart b.0 b.1) (subst P same a.2) b.2 tags);
+          one g h i j (apart-one (tag_in s words) (chain_in s words b.0) g.entry h.entry (t.apart b.0 b.1) (subst (λ (k : ℕ). In g.entry (chain_in s words k)) same a.2) b.2 tags);
     }
 
 -- the entry that is found of a tag is that tag's own

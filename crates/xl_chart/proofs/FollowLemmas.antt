@@ -31,7 +31,7 @@ use Rattle.xl_model.specs.Frames.{lowest}
 use Rattle.xl_model.specs.Tlb.{is_purged, reaches_leaf}
 use Rattle.xl_list_lemmas.specs.Members.{In}
 use Rattle.xl_list_lemmas.proofs.MemberLemmas.{find-In, find-None, find-passes}
-use Rattle.xl_model_lemmas.proofs.OrderLemmas.{orders-same}
+use Rattle.xl_model_lemmas.proofs.PlaceLemmas.{orders-same}
 use Rattle.xl_curve.specs.Tests.{purges}
 use Rattle.xl_chart.specs.Follows.{page_reach, followed}
 use Rattle.xl_model_lemmas.proofs.RuleLemmas.{or-second, or-first}

@@ -2,8 +2,7 @@
 use Rattle.xl_clustered.proofs.Common.{◌+◌, ◌-◌, ◌<◌, ◌==◌, ◌||◌, ◌∙◌, ◌∷◌, ◌≡◌, ◌≤◌, [], ap, AreBlocks, arith, Bool, ChainState, cond, eq-eqb, eqb-true, Err, false, found-under, found_of, given_word, has_tag, Held, held_with, inl, inr, inserted-put, is_entry, IsCountedBlock, IsNewBlock, IsPut, IsSameTable, IsSet, IsTaken, IsUnderTag, IsWritten, len-set, length, length-map, List, list_any, map, ne_eqb, not, Ok, OnErr, OnOk, refl, removed-taken, Result, rewritten, same-entry, set-by, set-other, set-same, Sixteen, slice_index, slice_set, subst, sym, tag-held, tags-set, tags_of, true, used_in, values-front, values-without, values_under, with_value, without_tag, word-first, word_at, word_found, ℕ}
 use Rattle.xl_chain.specs.Kept.{IsInserted}
 use Rattle.xl_chain.specs.Lines.{AreSingle}
-use Rattle.xl_list_lemmas.proofs.MemberLemmas.{filter-In, map-In}
-use Rattle.xl_list_lemmas.proofs.SameLemmas.{both}
+use Rattle.xl_list_lemmas.proofs.MemberLemmas.{both, filter-In, map-In}
 use Rattle.xl_list_lemmas.specs.Members.{In}
 use Rattle.xl_model.specs.Words.{leaf_word}
 use Rattle.xl_model.specs.declared.perm.Perm.{Perm}

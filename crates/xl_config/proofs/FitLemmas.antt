@@ -23,13 +23,6 @@ abbrev pub Fits : {A : Type 0} → (A → Type 0) → Result A KeyFault → Type
 Fits P (Ok a) = P a
 Fits P (Err e) = Unit {0}
 
-abbrev Any : {A : Type 0} → A → Type 0
-Any a = Unit {0}
-
-any_fits : {A : Type 0} (r : Result A KeyFault) → Fits Any r
-any_fits (Ok a) = tt
-any_fits (Err e) = tt
-
 then_fits : {A B : Type 0} (P : A → Type 0) (Q : B → Type 0) (r : Result A KeyFault) (f : A → Result B KeyFault)
     → Fits P r → ((a : A) → P a → Fits Q (f a)) → Fits Q (r >>= f)
 then_fits P Q (Ok a) f h k = k a h

@@ -1,4 +1,3 @@
 mod Common
-mod DocumentLemmas
 mod FitLemmas
 mod ItemLemmas

@@ -149,11 +149,6 @@ module _ {K C I S : Type 0} (m : Meaning C I S) (sink : SinkMeaning K) (answers 
     still_reads = f.0;
   }
 
-  -- as many records were served as were to be
-  pub going_full : {A : Type 0} (mid : Type 0) (by : (Trail → Course I) → Course I) (t : Trail) (p q : S) (k l : K) (v : A)
-      → On mid by (left_by (ran m 0) t) p q k l → ServesPart m sink answers mid by t p q k l (Ok v)
-  going_full mid by t p q k l v g = record { serves = g.serves; still_reads = g.still_reads }
-
   ends_at : (mid : Type 0) (by : (Trail → Course I) → Course I) (now later : Rules I) (t : Trail) (p q : S) (k l : K) (e : Option InputFault) (next : Trail → Course I)
       → Steps m now later → On mid by (left_by now t) p q k l → t ≡ at_end e → at_last e next ≡ ended e → Comes (by next) (ended e) p q k l
   ends_at mid by now later t p q k l e next steps g f h =
@@ -221,9 +216,6 @@ module _ {K C I S : Type 0} (m : Meaning C I S) (sink : SinkMeaning K) (answers 
 pub lost-any : {K C I S : Type 0} {m : Meaning C I S} {sink : SinkMeaning K} (answers : Bool) (xs : List I) (p q r : S) (k l : K)
     → HasServed m sink answers xs p q k l false → HasServed m sink answers xs p r k l false
 lost-any answers xs p q r k l x = record { state_is = tt; writes = x.writes }
-
-pub skimmed-none : {C I S : Type 0} (m : Meaning C I S) (reads_from : Type 0) (t : Trail) (p : S) → reads_from → Skimmed m reads_from t t p p 0
-skimmed-none m reads_from t p h = record { still_reads = h; taken = []; split = refl; follow = refl; many = refl }
 
 module _ {K C I S : Type 0} (m : Meaning C I S) (sink : SinkMeaning K) (reads_from : Type 0) (t u : Trail) (q s : S) (count : ℕ)
     (k : Skimmed m reads_from t u q s count) (out : K) where

@@ -1,6 +1,6 @@
 -- What the steps of a run say of its account.
-use Rattle.xl_course.proofs.Common.{◌++◌, ◌+◌, ◌-◌, ◌∙◌, ◌≡◌, ◌≤◌, Account, account, ap, append-nil, arith, before, Bool, Course, EndAfter, ended, Ends, Err, false, front_of_more, proceeds_same, Proceeds, InputFault, inr, is_all_put, joined, last_where, length, length-append, List, Meaning, None, Ok, Option, Reached, refl, Result, Serves, sink_then, SinkAfter, SinkMeaning, Some, states_after, Stop, StopsServing, StopsSource, subst, sym, printings, text_of, printed_by, true, with_more, WroteFront, ℕ}
-use Rattle.xl_course.proofs.MeaningLemmas.{printings-append, printed-append}
+use Rattle.xl_course.proofs.Common.{◌++◌, ◌+◌, ◌-◌, ◌∙◌, ◌≡◌, ◌≤◌, Account, account, ap, append-nil, arith, before, Bool, Course, EndAfter, ended, Ends, Err, false, front_of_more, InputFault, inr, is_all_put, joined, last_where, length, length-append, List, Meaning, None, Ok, Option, printed_by, printings, Proceeds, proceeds_same, Reached, refl, Result, Serves, sink_then, SinkAfter, SinkMeaning, Some, states_after, Stop, StopsServing, StopsSource, subst, sym, text_of, true, with_more, WroteFront, ℕ}
+use Rattle.xl_course.proofs.MeaningLemmas.{printed-append, printings-append}
 use Rattle.xl_course.specs.declared.stop.Stop.TheVariants as why
 
 -- a course of which all items were served

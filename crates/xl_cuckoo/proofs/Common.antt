@@ -22,7 +22,6 @@ pub use Rattle.xl_way.specs.Slots.{WayState, word_in}
 unfoldable pub use Rattle.xl_way.specs.Slots.{word_of}
 pub use Rattle.xl_cuckoo.specs.Growth.{candidate_in, candidate_of}
 pub use Rattle.xl_cuckoo.specs.State.{changed_by, no_way, put_at, shapes, state_at, with_begun, with_forced, with_settled, with_swapped}
-pub use Rattle.xl_cuckoo.specs.Steps.{IsCapped, IsGrown, with_kicks, with_undone}
 pub use Rattle.xl_cuckoo.specs.Table.{AddsEntry, AreOnce, CuckooState, inserted, IsTable, loaded, SameEntries, value_of}
 pub use Rattle.xl_cuckoo.specs.Undo.{displaced, in_hand, key_of, previous_way}
 unfoldable pub use Rattle.xl_cuckoo.specs.Undo.{keys_in_hand, undone}

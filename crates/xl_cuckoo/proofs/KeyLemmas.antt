@@ -54,8 +54,7 @@ pub held-at : (key at : ℕ) (ws : List WayState) → holder_from 0 (shapes ws) 
 held-at key at ws e =
     let found = found-held key 0 at (shapes ws) e in
     let same : found.0 ≡ at = (let s : at ≡ 0 + found.0 = found.1 in omega arith) in
-    let P : ℕ → Type 0 = λ n. is_held (way_at (shapes ws) n) key ≡ true in
-    ap (λ (w : WayShape). is_held w key) (sym (shape-at ws at)) ∙ subst P same found.2
+    ap (λ (w : WayShape). is_held w key) (sym (shape-at ws at)) ∙ subst (λ (n : ℕ). is_held (way_at (shapes ws) n) key ≡ true) same found.2
 
 -- a change of one key is a change of the way that holds it
 Leaves : ℕ → (WayShape → WayShape) → Type 0
@@ -126,8 +125,7 @@ once-added x old new once adds none = λ key.
     elim (x.key == key) as (λ b. (x.key == key) ≡ b → tally (has_key key) (entries_in new) ≤ 1) [
       | true ↦ λ t.
           let same : x.key ≡ key = grind (arith, nat_tests) in
-          let Z : ℕ → Type 0 = λ k. tally (has_key k) (entries_in old) ≡ 0 in
-          let z : tally (has_key key) (entries_in old) ≡ 0 = subst Z same (no-value x.key old none) in
+          let z : tally (has_key key) (entries_in old) ≡ 0 = subst (λ (k : ℕ). tally (has_key k) (entries_in old) ≡ 0) same (no-value x.key old none) in
           let a = adds (has_key key) in
           let i : one_if (has_key key x) ≡ 1 = ap one_if t in
           omega arith

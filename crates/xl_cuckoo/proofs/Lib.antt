@@ -1,7 +1,5 @@
 mod Common
 pub mod KickLemmas
 pub mod LoopLemmas
-pub mod GrowLemmas
-pub mod StepLemmas
 pub mod KeyLemmas
 pub mod TableLemmas

@@ -40,26 +40,10 @@ holder-here key ws i w l e =
     ∙ ap (λ b. cond b (Some i) (holder_from (i + 1) (shapes (drop (i + 1) ws)) key))
     (held_by (state_at ws i).shape key ∙ ap (λ (v : WayState). is_some (word_of key v.shape.entries)) (read-here ws i w l e))
 
-pub holder-end : (key : ℕ) (ws : List WayState) (i : ℕ) → length ws ≤ i → holder_from i (shapes (drop i ws)) key ≡ None
-holder-end key ws i l = ap (λ (us : List WayState). holder_from i (shapes us) key) (drop_all i ws l)
-
 -- one way after another is written
 pub written-more : (f : WayState → WayState) (ws vs : List WayState) (i : ℕ) → i < length ws → vs ≡ map f (take i ws) ++ drop i ws → i < length vs
     → set vs i (f (state_at vs i)) ≡ map f (take (i + 1) ws) ++ drop (i + 1) ws
 written-more f ws vs i l e m = map_over_more f ws vs i (state_at vs i) l e (get_or_default vs i no_way (state_at vs i) m)
-
-pub written-end : (f : WayState → WayState) (ws vs : List WayState) (i : ℕ) → length ws ≤ i → vs ≡ map f (take i ws) ++ drop i ws → vs ≡ map f ws
-written-end f ws vs i l e = e ∙ ap (λ us. map f (take i ws) ++ us) (drop_all i ws l) ∙ append-nil (map f (take i ws)) ∙ ap (map f) (take-all i ws l)
-  where
-    append-nil : (us : List WayState) → us ++ [] ≡ us
-    append-nil [] = refl
-    append-nil (u ∷ us) = ap (λ vs. u ∷ vs) (append-nil us)
-
-    take-all : (n : ℕ) (us : List WayState) → length us ≤ n → take n us ≡ us
-    take-all zero [] h = refl
-    take-all zero (u ∷ us) h = absurd (omega arith)
-    take-all (suc n) [] h = refl
-    take-all (suc n) (u ∷ us) h = ap (λ vs. u ∷ vs) (take-all n us (omega arith))
 
 -- what is at the next place is still as it was
 pub state-same : (f : WayState → WayState) (ws vs : List WayState) (i : ℕ) → i < length ws → vs ≡ map f (take i ws) ++ drop i ws → state_at vs i ≡ state_at ws i
@@ -76,9 +60,6 @@ pub total-next : (f : WayShape → ℕ) (sum : ℕ) (ws : List WayState) (i : �
 total-next f sum ws i l =
     let a : total f (shapes (drop i ws)) ≡ f (state_at ws i).shape + total f (shapes (drop (i + 1) ws)) = ap (λ (us : List WayState). total f (shapes us)) (from-here ws i l) in
     omega arith
-
-pub total-end : (f : WayShape → ℕ) (sum : ℕ) (ws : List WayState) (i : ℕ) → length ws ≤ i → sum < 2 ^ 64 → plus sum (total f (shapes (drop i ws))) ≡ sum
-total-end f sum ws i l small = let a : total f (shapes (drop i ws)) ≡ 0 = ap (λ (us : List WayState). total f (shapes us)) (drop_all i ws l) in omega arith
 
 -- the ways are changed
 pub shapes-map : (f : WayShape → WayShape) (ws : List WayState) → shapes (map (changed_by f) ws) ≡ map f (shapes ws)

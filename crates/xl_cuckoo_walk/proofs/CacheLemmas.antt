@@ -1,5 +1,5 @@
 -- A cache of sections, by what is known beside its list.
-use Rattle.xl_cuckoo_walk.proofs.Common.{◌==◌, ◌∙◌, ◌∷◌, ◌≡◌, ap, arith, Bool, Cached, empty_cache, false, filled, find, find-passes, has_tag, IsFrontIf, IsKnown, Item, List, nat_tests, newest_in, None, not, Option, purged, refl, Some, subst, sym, touched, touched_in, true, without_first, word_known, word_of_item, ℕ}
+use Rattle.xl_cuckoo_walk.proofs.Common.{◌==◌, ◌∙◌, ◌∷◌, ◌≡◌, ap, arith, Bool, Cached, empty_cache, false, find, find-passes, has_tag, IsFrontIf, IsKnown, Item, List, nat_tests, newest_in, None, not, Option, purged, refl, Some, subst, sym, touched, touched_in, true, without_first, word_known, word_of_item, ℕ}
 
 -- what a touch found is in front
 front_touched : (tag : ℕ) (xs : List Item) (o : Option Item) → find (has_tag tag) xs ≡ o → IsFrontIf tag (word_known (word_of_item o)) (touched (has_tag tag) xs)
@@ -24,14 +24,6 @@ off_touched tag c e = subst (λ d. touched_in tag d ≡ d) (sym e) refl
 
 pub off_purged : (p : Item → Bool) (c : Cached Item) → c ≡ empty_cache 0 → record c { items = purged p c.items } ≡ c
 off_purged p c e = subst (λ d. record d { items = purged p d.items } ≡ d) (sym e) refl
-
-pub off_found : (tag : ℕ) (c : Cached Item) → c ≡ empty_cache 0 → None ≡ word_of_item (find (has_tag tag) c.items)
-off_found tag c e = subst (λ d. None ≡ word_of_item (find (has_tag tag) d.items)) (sym e) refl
-
-pub off_kept : (fills : Bool) (hit : Option ℕ) (key word : ℕ) (c : Cached Item) → c ≡ empty_cache 0 → c ≡ filled fills hit key word c
-off_kept false hit key word c e = refl
-off_kept true None key word c e = sym (off_filled key word c e)
-off_kept true (Some old) key word c e = refl
 
 -- what is known after each call
 pub known_opened : (width : ℕ) (c : Cached Item) → c ≡ empty_cache width → IsKnown (not (width == 0)) 0 0 c

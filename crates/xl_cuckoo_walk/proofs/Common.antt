@@ -6,9 +6,8 @@ pub use Rattle.std.specs.List.{list_any}
 pub use Rattle.std.specs.Prelude.{find, is_some, IsSome, slice_get, slice_index}
 pub use Rattle.xl_cuckoo.proofs.KeyLemmas.{no-value, once-added, once-cleared, once-reworded, once-same}
 pub use Rattle.xl_cuckoo.specs.Table.{AddsEntry, AreOnce, CuckooState, inserted, opening, SameEntries, value_of}
-pub use Rattle.xl_list_lemmas.proofs.MemberLemmas.{any-false, any-In, find-In, find-None, find-only, find-passes, In-any, In-append, In-left, In-map, In-right, map-In}
+pub use Rattle.xl_list_lemmas.proofs.MemberLemmas.{any-each, any-false, any-In, any-same, both, find-In, find-None, find-only, find-passes, In-any, In-append, In-left, In-map, In-right, map-In, none-any, same-tests}
 pub use Rattle.xl_list_lemmas.proofs.RecencyLemmas.{find-none, find-some, newest-map, purged-map, touched-map, touched-none}
-pub use Rattle.xl_list_lemmas.proofs.SameLemmas.{any-each, any-same, both, none-any, same-tests}
 pub use Rattle.xl_list_lemmas.proofs.TallyLemmas.{tally-any}
 pub use Rattle.xl_list_lemmas.specs.Members.{In}
 pub use Rattle.xl_list_lemmas.specs.Tallies.{tally}
@@ -21,8 +20,7 @@ pub use Rattle.xl_model.specs.Changes.{at_page, Change, Insert, IsNamed, old_lea
 unfoldable pub use Rattle.xl_model.specs.Changes.{changed, with_both}
 pub use Rattle.xl_model.specs.Mapping.{covers, is_leaf, leaf_key, meets_block, with_leaf, without_leaf}
 unfoldable pub use Rattle.xl_model.specs.Mapping.{leaf_at_page, leaf_named, meets_any}
-pub use Rattle.xl_model.specs.Placing.{after_attempt, after_placing, AtCap, Attempt, by_occupant, Candidate, Displaced, Fails, forced, forced_moves, growths_left, holder_from, is_held, next_way, no_moves, Placed, Placing, put_in, settled, start_way, Succeeds, to_grow, way_at, with_growth}
-unfoldable pub use Rattle.xl_model.specs.Placing.{attempt, insertion, place, placing}
+pub use Rattle.xl_model.specs.Placing.{AtCap, attempt, Displaced, forced, growths_left, holder_from, insertion, is_held, next_way, no_moves, Placed, put_in, start_way, way_at}
 pub use Rattle.xl_model.specs.Recency.{purged, touched, with_newest, without_first}
 pub use Rattle.xl_model.specs.Room.{room_for}
 unfoldable pub use Rattle.xl_model.specs.Room.{has_room}
@@ -47,9 +45,8 @@ pub use Rattle.xl_model.specs.declared.work.Work.{Work}
 pub use Rattle.xl_model_lemmas.proofs.FreshSectionLemmas.{by-fields, holder-same, section-after, section-fenced, section-refused, section-some, section-walked, sections-same}
 pub use Rattle.xl_model_lemmas.proofs.InsertionLemmas.{In-with, stays-with, with-In, without-In, without-other}
 pub use Rattle.xl_model_lemmas.proofs.MappingLemmas.{named-In, named-is}
-pub use Rattle.xl_model_lemmas.proofs.OrderLemmas.{level-low, order-same, orders-same, pages-some, same-level}
-pub use Rattle.xl_model_lemmas.proofs.PlaceLemmas.{aligned-frame, covers-meets, first-covered, named-first, named-order, named-space}
-pub use Rattle.xl_model_lemmas.proofs.PlacingLemmas.{entries-same, forced-entries, one_of, set-length, settled-entries, swapped-adds}
+pub use Rattle.xl_model_lemmas.proofs.PlaceLemmas.{aligned-frame, covers-meets, first-covered, level-low, named-first, named-order, named-space, order-same, orders-same, pages-some, same-level}
+pub use Rattle.xl_model_lemmas.proofs.PlacingLemmas.{attempt-by, entries-same, forced-entries, insertion-by, one_of, placing-by, set-length, Succeeded, swapped-adds}
 pub use Rattle.xl_model_lemmas.proofs.SearchLemmas.{only, only-first}
 pub use Rattle.xl_model_lemmas.proofs.SectionLemmas.{count-keys, In-keys, keys-In, keys-once, small-block}
 pub use Rattle.xl_model_lemmas.proofs.WayTallyLemmas.{tally-same, ways-reworded, ways-without}

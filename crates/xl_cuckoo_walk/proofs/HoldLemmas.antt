@@ -224,10 +224,9 @@ module _ (back : MadeWordsReadBack) (p : RowParts) (h : HoldsLeaves p (leaves_of
   is-gone : IsTableFor p x.order gone rest
   is-gone =
       let P : List WayShape → Type 0 = λ ws. AreHeld One (values_in (with_ways x.order ws (ways_in p))) (tags_in (with_ways x.order ws (ways_in p))) rest in
-      let K : List WayShape → Type 0 = λ ws. (e : Entry) → In e (entries_in ws) → e.key < 2 ^ 60 in
       record {
         held = subst P same-ways (take-leaf back (ways_in p) all_leaves h.held h.once x there h.keys);
-        keys = subst K same-ways keys-out;
+        keys = subst (λ (ws : List WayShape). (e : Entry) → In e (entries_in ws) → e.key < 2 ^ 60) same-ways keys-out;
         once = subst AreOnce same-ways (once-cleared (leaf_entry x).key (ways_of x.order (ways_in p)) (h.once x.order));
         rules = out-rules;
       }

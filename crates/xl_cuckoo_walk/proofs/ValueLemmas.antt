@@ -14,11 +14,9 @@ tally-one : {A : Type 0} (q : A → Bool) (x y : A) (xs : List A) → tally q xs
 tally-one q x y [] few i j s t = absurd i
 tally-one q x y (z ∷ zs) few (inl a) (inl b) s t = a ∙ sym b
 tally-one {A} q x y (z ∷ zs) few (inl a) (inr j) s t =
-    let P : A → Type 0 = λ w. q w ≡ true in
-    let here : one_if (q z) ≡ 1 = ap one_if (subst P a s) in let there : 1 ≤ tally q zs = tally-In q y zs j t in absurd (omega arith)
+    let here : one_if (q z) ≡ 1 = ap one_if (subst (λ (w : A). q w ≡ true) a s) in let there : 1 ≤ tally q zs = tally-In q y zs j t in absurd (omega arith)
 tally-one {A} q x y (z ∷ zs) few (inr i) (inl b) s t =
-    let P : A → Type 0 = λ w. q w ≡ true in
-    let here : one_if (q z) ≡ 1 = ap one_if (subst P b t) in let there : 1 ≤ tally q zs = tally-In q x zs i s in absurd (omega arith)
+    let here : one_if (q z) ≡ 1 = ap one_if (subst (λ (w : A). q w ≡ true) b t) in let there : 1 ≤ tally q zs = tally-In q x zs i s in absurd (omega arith)
 tally-one q x y (z ∷ zs) few (inr i) (inr j) s t = tally-one q x y zs (omega arith) i j s t
 
 -- an entry with this key and this word

@@ -1,11 +1,84 @@
 -- The words of sections that a leaf's coming or going leaves as they are.
-use Rattle.xl_cuckoo_walk.proofs.Common.{◌&&◌, ◌++◌, ◌+◌, ◌==◌, ◌||◌, ◌∙◌, ◌∷◌, ◌≡◌, [], ap, arith, Bool, cond, Count, count_of, counts_at, CuckooRules, CuckooWays, Displaced, Entry, false, has_key, holder_from, In, In-left, In-map, In-right, inl, is_held, IsSorted, IsTied, key_in, keys_from, keys_if, Leaf, leaf_entry, level_of, List, list_any, map, Moves, nat_le, nat_tests, new_word, not, Option, Order, order-same, page_key, part, Placed, placed_leaf, refl, same_order, Some, subst, sym, true, unit, way_where, ways_of, WayShape, with_leaf, with_ways, without_entry, without_key, without_leaf, word-cons, word_by, ℕ}
+use Rattle.xl_cuckoo_walk.proofs.Common.{◌&&◌, ◌++◌, ◌+◌, ◌==◌, ◌||◌, ◌∙◌, ◌∷◌, ◌≡◌, [], ap, arith, attempt, attempt-by, Bool, cond, Count, count_of, counts_at, CuckooRules, CuckooWays, Displaced, entries_of, Entry, false, forced, forced-entries, growths_left, has_key, holder-same, holder_from, In, In-left, In-map, In-right, inl, insertion, insertion-by, is_held, IsSorted, IsTied, key_in, keys_from, keys_if, Leaf, leaf_entry, length, length-map, level_of, List, list_any, map, Moves, nat_le, nat_tests, new_word, next_way, no_moves, None, not, occupant, one_if, one_of, opening_way, Option, Order, order-same, page_key, part, Placed, placed_leaf, placing-by, put_in, refl, same_order, set-length, slice_set, Some, start_way, subst, suc, Succeeded, swapped, swapped-adds, sym, tally, tally-any, true, unit, way_at, way_where, ways_of, WayShape, with_leaf, with_ways, without_entry, without_key, without_leaf, word-cons, word_by, zero, ℕ}
+use Rattle.std.proofs.Math.Seq.{map-set_same}
 use Rattle.xl_sections.specs.Counted.{word_of}
 use Rattle.xl_cuckoo_walk.proofs.CountLemmas.{Apart, word-less, word-with}
 use Rattle.xl_cuckoo_walk.proofs.HoldLemmas.{entry-key}
 use Rattle.xl_cuckoo_walk.proofs.IndexLemmas.{each-way}
-use Rattle.xl_cuckoo_walk.proofs.StayLemmas.{insertion-stays}
 use Rattle.xl_model.specs.declared.address.Order.TheVariants as order
+
+-- a key that isn't this one
+abbrev pub Other : ℕ → ℕ → Type 0
+Other key k = k ≡ key → ⊥
+
+other-test : (key : ℕ) (e : Entry) → Other key e.key → has_key key e ≡ false
+other-test key e h = elim (e.key == key) as (λ b. (e.key == key) ≡ b → b ≡ false) [ true ↦ λ t. absurd (h (grind (arith, nat_tests))) | false ↦ λ t. refl ] refl
+
+OtherOf : ℕ → Option Entry → Type 0
+OtherOf key None = Unit {0}
+OtherOf key (Some e) = Other key e.key
+
+held-same : (key : ℕ) (w : WayShape) (x : Entry) (o : Option Entry) → occupant w x.key ≡ o → Other key x.key → OtherOf key o → is_held (swapped w x) key ≡ is_held w key
+unfolding OtherOf
+held-same key w x o e h k =
+    let a = swapped-adds (has_key key) w x o e in
+    let b : one_if (has_key key x) ≡ 0 = ap one_if (other-test key x h) in
+    let c : one_of (has_key key) o ≡ 0 = none o k in
+    let n : tally (has_key key) (swapped w x).entries ≡ tally (has_key key) w.entries = omega arith in
+    tally-any (has_key key) (swapped w x).entries ∙ ap (λ m. not (m == 0)) n ∙ sym (tally-any (has_key key) w.entries)
+  where
+    none : (q : Option Entry) → OtherOf key q → one_of (has_key key) q ≡ 0
+    none None u = refl
+    none (Some y) u = ap one_if (other-test key y u)
+
+holder-set : (key : ℕ) (ways : List WayShape) (at : ℕ) (v : WayShape) → is_held v key ≡ is_held (way_at ways at) key → (i : ℕ) → holder_from i (slice_set ways at v) key ≡ holder_from i ways key
+holder-set key [] at v e i = refl
+holder-set key (w ∷ ways) zero v e i = ap (λ b. cond b (Some i) (holder_from (i + 1) ways key)) e
+holder-set key (w ∷ ways) (suc at) v e i = ap (λ o. cond (is_held w key) (Some i) o) (holder-set key ways at v e (i + 1))
+
+-- none of these was displaced
+abbrev pub NotIn : ℕ → List Displaced → Type 0
+NotIn key moved = (d : Displaced) → In d moved → Other key d.key
+
+-- a key is held in these ways as in those
+abbrev HoldsAs : ℕ → List WayShape → List WayShape → Type 0
+HoldsAs key ways us = (length us ≡ length ways) × ((i : ℕ) → holder_from i us key ≡ holder_from i ways key)
+
+put-stays : (key : ℕ) (ways us : List WayShape) (at : ℕ) (hand : Entry) (o : Option Entry) → occupant (way_at us at) hand.key ≡ o → Other key hand.key → OtherOf key o
+    → HoldsAs key ways us → HoldsAs key ways (put_in us at hand)
+put-stays key ways us at hand o e h k r = (
+  set-length us at (swapped (way_at us at) hand) ∙ r.0,
+  λ i. holder-set key us at (swapped (way_at us at) hand) (held-same key (way_at us at) hand o e h k) i ∙ r.1 i,
+)
+
+attempt-stays : (key left : ℕ) (ways us : List WayShape) (at : ℕ) (hand : Entry) → Other key hand.key → HoldsAs key ways us
+    → Succeeded (λ vs moved. NotIn key moved → HoldsAs key ways vs) (attempt left us at hand [])
+unfolding OtherOf
+attempt-stays key left ways us at hand h r =
+    attempt-by (λ vs at hand moved. NotIn key moved → Other key hand.key × HoldsAs key ways vs) (λ vs moved. NotIn key moved → HoldsAs key ways vs)
+    (λ vs at hand moved i none n. let k = i n in put-stays key ways vs at hand None none k.0 tt k.1)
+    (λ vs at hand moved y i some n.
+    let d : Displaced = record { key = y.key; way = next_way (length vs) at } in
+    let k = i (λ z j. n z (In-left z moved (d ∷ []) j)) in
+    let other : Other key y.key = n d (In-right d moved (d ∷ []) (inl refl)) in
+    (other, put-stays key ways vs at hand (Some y) some k.0 other k.1))
+    left us at hand [] (λ n. (h, r))
+
+-- after an insertion a key that didn't come and wasn't displaced is held by the way that held it
+pub insertion-stays : (key limit most threshold : ℕ) (ways after : List WayShape) (x : Entry) (moved : List Displaced) (m : Moves) → Other key x.key → NotIn key moved
+    → insertion limit most threshold ways x ≡ Placed after moved m → (length after ≡ length ways) × (holder_from 0 after key ≡ holder_from 0 ways key)
+insertion-stays key limit most threshold ways after x moved m h n e =
+    let C : List WayShape → List Displaced → Type 0 = λ us mv. NotIn key mv → HoldsAs key ways us in
+    let Q : List WayShape → Type 0 = λ us. HoldsAs key ways us in
+    let r = insertion-by C Q limit most threshold ways after x moved m
+    (placing-by C Q x limit (λ us k. attempt-stays key limit ways us (start_way (length us) x.key) x h k)
+    (λ us i k. (
+      set-length us i (forced (way_at us i)) ∙ k.0,
+      λ j. holder-same j (slice_set us i (forced (way_at us i))) us key (map-set_same entries_of us i (forced (way_at us i)) (opening_way 0 0 0) (forced-entries (way_at us i))) ∙ k.1 j,
+    ))
+    (growths_left ways) ways no_moves (refl, λ i. refl)) e in
+    let s = r.2 n in
+    (sym (length-map after entries_of) ∙ ap length r.1 ∙ length-map r.0 entries_of ∙ s.0, holder-same 0 after r.0 key r.1 ∙ s.1 0)
 
 -- the word of a section by its count and the holder of its key
 abbrev word_for : Order → ℕ → Option ℕ → ℕ

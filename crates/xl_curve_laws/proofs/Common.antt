@@ -4,7 +4,7 @@ pub use Rattle.std.proofs.lemmas.Bool.Decides.{nat_tests}
 pub use Rattle.std.specs.Cmp.{first_so, second_so}
 pub use Rattle.xl_curve_model.specs.Curves.{held_in, HitCurve, hits_of, leaf_touched, opening_point, Point, point_accessed, point_without, same_leaf, spec_of_width}
 unfoldable pub use Rattle.xl_curve_model.specs.Curves.{curve_accessed, curve_missed, curve_without, hits_at, opening_curve}
-pub use Rattle.xl_list_lemmas.proofs.MemberLemmas.{find-In, find-passes}
+pub use Rattle.xl_list_lemmas.proofs.MemberLemmas.{find-In, find-passes, same-tests}
 pub use Rattle.xl_list_lemmas.specs.Members.{In}
 pub use Rattle.xl_model.specs.Addresses.{is_canonical, page_of, pages_of, same_order}
 pub use Rattle.xl_model.specs.Mapping.{covers, flat, leaf_at_page}

@@ -1,10 +1,9 @@
 -- One array that takes all orders: what it hits of a page is the leaf of the mapping, found in its own set.
-use Rattle.xl_curve_laws.proofs.Common.{◌%◌, ◌*◌, ◌+◌, ◌/◌, ◌<◌, ◌∙◌, ◌∷◌, ◌≡◌, ◌≤◌, [], ap, arith, array_hit, array_touched, ArraysFresh, Bool, covered-one, covers, covers_as, false, find, find-passes, first_found, first_so, found_as, get-In, held_in, In, inl, inr, Leaf, leaf_touched, List, nat_tests, None, Option, pages_of, refl, Row, same_leaf, same_order, second_so, set_at, set_number, slice_index_or, Some, spec_of_width, subst, sym, takes_order, TlbArray, true, with_set, ℕ}
+use Rattle.xl_curve_laws.proofs.Common.{◌%◌, ◌*◌, ◌+◌, ◌/◌, ◌<◌, ◌∙◌, ◌∷◌, ◌≡◌, ◌≤◌, [], ap, arith, array_hit, array_touched, ArraysFresh, Bool, covered-one, covers, covers_as, false, find, find-passes, first_found, first_so, found_as, get-In, held_in, In, inl, inr, Leaf, leaf_touched, List, nat_tests, None, Option, pages_of, refl, Row, same-tests, same_leaf, same_order, second_so, set_at, set_number, slice_index_or, Some, spec_of_width, subst, sym, takes_order, TlbArray, true, with_set, ℕ}
 use Rattle.xl_curve_model.proofs.SameLeafLemmas.{leaf_same, leaf_self}
-use Rattle.xl_list_lemmas.proofs.SameLemmas.{same-tests}
 use Rattle.xl_model.specs.Recency.{in_front, touched, without_first}
 use Rattle.xl_model.specs.declared.address.Order.{Order}
-use Rattle.xl_model_lemmas.proofs.OrderLemmas.{order-same, orders-same}
+use Rattle.xl_model_lemmas.proofs.PlaceLemmas.{order-same, orders-same}
 use Rattle.xl_model_lemmas.specs.Mappings.{IsMapping}
 use Rattle.xl_model.specs.declared.address.Order.TheVariants as order
 

@@ -3,16 +3,15 @@ pub use Rattle.std.proofs.Common.{◌++◌, ◌+◌, ◌<◌, ◌∙◌, ◌∷�
 pub use Rattle.std.proofs.lemmas.Bool.Decides.{nat_tests}
 pub use Rattle.std.proofs.lemmas.List.{map-append, map-id, take-append-le, take_all}
 pub use Rattle.std.specs.Prelude.{Err, IfSome, None, Ok, Option, Result, slice_get, slice_index_or, Some}
-pub use Rattle.xl_course.proofs.MeaningLemmas.{states-append}
 pub use Rattle.xl_course.proofs.KnownLemmas.{is_err_by, known_one, known_then}
+pub use Rattle.xl_course.proofs.MeaningLemmas.{states-append}
 pub use Rattle.xl_course.specs.Accounts.{account, Ends}
 pub use Rattle.xl_course.specs.Courses.{accesses_items, at_last, before, Course, course, course_by, finish, items_of as items_in, items_of_all, ran, ran_all}
-pub use Rattle.xl_course.specs.Meanings.{states_after, printed_by}
+pub use Rattle.xl_course.specs.Meanings.{printed_by, states_after}
 pub use Rattle.xl_course.specs.Serving.{HasServed, Skimmed}
 pub use Rattle.xl_curve_model.specs.Curves.{HitCurve, opening_curve}
 pub use Rattle.xl_lackey.specs.declared.skim.Access.{Access}
 pub use Rattle.xl_model.specs.Courses.{Accesses, at_end, events_from, Trail}
-pub use Rattle.xl_model.specs.Rows.{Row, row_of}
 pub use Rattle.xl_model.specs.Scenes.{rows_after, Scene, Served}
 unfoldable pub use Rattle.xl_model.specs.Scenes.{scene_after}
 pub use Rattle.xl_model.specs.declared.address.Kind.{Kind}
@@ -29,4 +28,4 @@ pub use Rattle.xl_serving.specs.Inputs.{Finds, trail_for}
 pub use Rattle.xl_serving.specs.Plain.{AreOpened, plain, plain_start, rows_by, rows_from, Start, start_of, steps_of}
 pub use Rattle.xl_serving.specs.Serving.{count_of, event_at, scene_of}
 pub use Rattle.xl_words.specs.Words.{AskedPlain, plain_of}
-pub use Rattle.xl_curving.specs.Curving.{curve_lines, curve_scene_after, curve_scene_of, curved, curves_by, curves_from, curves_text, curves_drained, CurveScene, with_curves}
+pub use Rattle.xl_curving.specs.Curving.{curve_lines, curve_scene_after, curve_scene_of, curved, curves_by, curves_drained, curves_from, curves_text, CurveScene, with_curves}

@@ -1,5 +1,5 @@
 -- A run from its start: its course is that of the plain form, and the rows are what that leaves.
-use Rattle.xl_curving.proofs.Common.{◌∙◌, ◌∷◌, ◌≡◌, [], Access, Accesses, account, ap, Area, at_end, at_last, before, Bool, Course, course, course_by, curve_scene_after, curve_scene_of, curved, curves_by, curves_from, curves_text, curves_drained, CurveScene, Ends, false, finish, HasServed, HitCurve, Item, items_in, length, List, None, Ok, opening_curve, Option, plain, ran, ran_all, refl, replicate, Result, rows_by, rows_from, Scene, scene_of, Served, sink_same, SinkAfter, SinkMeaning, Some, Start, start_of, states_after, steps_of, subst, suc, sym, printed_by, Trail, true, with_curves, zero, ℕ}
+use Rattle.xl_curving.proofs.Common.{◌∙◌, ◌∷◌, ◌≡◌, [], Access, Accesses, account, ap, Area, at_end, at_last, before, Bool, Course, course, course_by, curve_scene_after, curve_scene_of, curved, curves_by, curves_drained, curves_from, curves_text, CurveScene, Ends, false, finish, HasServed, HitCurve, Item, items_in, length, List, None, Ok, opening_curve, Option, plain, printed_by, ran, ran_all, refl, replicate, Result, rows_by, rows_from, Scene, scene_of, Served, sink_same, SinkAfter, SinkMeaning, Some, Start, start_of, states_after, steps_of, subst, suc, sym, Trail, true, with_curves, zero, ℕ}
 use Rattle.xl_course.specs.declared.form.Step.{Step}
 use Rattle.xl_course.specs.declared.stop.Stop.{Stop}
 use Rattle.xl_model.specs.declared.fault.InputFault.{InputFault}

@@ -1,5 +1,3 @@
 mod Common
 mod EndLemmas
-mod LineLemmas
 mod SceneLemmas
-mod SkimLemmas

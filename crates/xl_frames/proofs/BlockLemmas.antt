@@ -1,5 +1,5 @@
 -- Blocks of free frames.
-use Rattle.xl_frames.proofs.Common.{◌*◌, ◌+◌, ◌-◌, ◌/◌, ◌<◌, ◌∙◌, ◌≤◌, arith, Bool, cases_lt, div-add-mod, false, false≢true, get_or-replicate, get_or_past, HasNone, inl, inr, IsFree, IsLowest, length, List, mul-le-mul_right, mul_comm, refl, replicate, suc, suc-mul, sym, true, ℕ}
+use Rattle.xl_frames.proofs.Common.{◌*◌, ◌+◌, ◌-◌, ◌/◌, ◌<◌, ◌∙◌, ◌≤◌, arith, Bool, cases_lt, div-add-mod, false, false≢true, get_or-replicate, get_or_past, inl, inr, IsFree, IsLowest, length, List, mul-le-mul_right, mul_comm, refl, replicate, suc, suc-mul, sym, true, ℕ}
 
 -- ---- a block of a size
 
@@ -37,11 +37,6 @@ lowest_found pool block size fits f before = record {
   least = λ b g.
       elim (cases_lt b block) [ inl l ↦ absurd (before b l g) | inr ge ↦ mul-le-mul_right {m = block} size ge ];
 }
-
-pub none_found : (pool : List Bool) (size : ℕ) → 0 < size
-    → ((b : ℕ) → b < length pool / size → IsFree pool (b * size) size → ⊥) → HasNone pool size
-none_found pool size pos before =
-    record { none = λ block f. before block (block_below block size (length pool) pos (free_fits pool (block * size) size f pos)) f }
 
 -- and the whole blocks fit
 pub block_fits : (block size n : ℕ) → block < n / size → block * size + size ≤ n

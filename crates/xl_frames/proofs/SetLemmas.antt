@@ -1,9 +1,8 @@
 -- What a call leaves in the sets of the frames, of the blocks and of the parts.
-use Rattle.xl_frames.proofs.Common.{◌*◌, ◌+◌, ◌/◌, ◌<◌, ◌^◌, ◌∙◌, ◌≡◌, ◌≤◌, ◌⊎◌, add-mul, ap, AreFree, AreMarked, arith, Bool, cases_eq, cases_lt, ext_get_or, false, false≢true, get_or, get_or-replicate, get_or-set_other, get_or-set_same, get_or_past, HasNone, IfSome, inl, inr, IsFree, IsLowest, length, length-replicate, length-set, List, marked, mul-le-mul_right, None, Option, refl, replicate, set, Some, subst, sym, true, ℕ}
+use Rattle.xl_frames.proofs.Common.{◌*◌, ◌+◌, ◌/◌, ◌<◌, ◌^◌, ◌∙◌, ◌≡◌, ◌≤◌, ◌⊎◌, add-mul, ap, AreFree, AreMarked, arith, Bool, cases_eq, cases_lt, ext_get_or, false, false≢true, get_or, get_or-replicate, get_or-set_other, get_or-set_same, get_or_past, IfSome, inl, inr, IsFree, IsLowest, length, length-replicate, length-set, List, marked, mul-le-mul_right, None, Option, refl, replicate, set, Some, subst, sym, true, ℕ}
 use Rattle.xl_frames.proofs.BlockLemmas.{block_below, block_fits, free_all, free_fits, one_more_block}
 use Rattle.xl_frames.proofs.MarkLemmas.{length-marked, marked_above, marked_below, marked_inside}
-use Rattle.xl_frames.specs.Blocks.{AreBlocks, IsKept, IsBlockJoined}
-use Rattle.xl_numbers.specs.Free as numbers
+use Rattle.xl_frames.specs.Blocks.{AreBlocks, IsBlockJoined, IsKept}
 
 -- flags that are marked are those of the definition
 pub marked_is : (old new : List Bool) (first count : ℕ) (v : Bool) → first + count ≤ length old → AreMarked old new first count v → new ≡ marked old first count v
@@ -140,32 +139,6 @@ run_marked size pool pool' blocks blocks' block n v pos a m s = record {
       each = λ k l u. m.inside k (let q = mul-le-mul_right {m = block} size from in omega arith) (let e = add-mul block n size in let q = one_more_block b (block + n) size to in omega arith) ∙ is;
     }
 
--- the lowest block
-pub lowest_block : (size : ℕ) (pool blocks : List Bool) (b at : ℕ) → 0 < size → at ≡ b * size → AreBlocks size pool blocks → numbers.IsLowest blocks b → IsLowest pool size at
-lowest_block size pool blocks b at pos e a low = subst (λ n. IsLowest pool size n) (sym e) (record {
-  aligned = (b, refl);
-  fits = free_fits pool (b * size) size (a.flagged b low.is_free) pos;
-  is_free = a.flagged b low.is_free;
-  least = λ block f. elim (cases_lt block b) [
-    | inl less ↦ absurd (false≢true (sym (low.least block less) ∙ a.every block f))
-    | inr more ↦ mul-le-mul_right {m = b} size more
-  ];
-})
-
-pub none_block : (size : ℕ) (pool blocks : List Bool) → AreBlocks size pool blocks → numbers.HasNone blocks → HasNone pool size
-none_block size pool blocks a none = record { none = λ block f. false≢true (sym (none block) ∙ a.every block f) }
-
-pub some_block : (size : ℕ) (pool blocks : List Bool) (b : ℕ) → AreBlocks size pool blocks → numbers.IsLowest blocks b → (block : ℕ) × IsFree pool (block * size) size
-some_block size pool blocks b a low = (b, a.flagged b low.is_free)
-
--- each frame is a block of one
-pub single : (pool : List Bool) → AreBlocks 1 pool pool
-single pool = record {
-  count = omega arith;
-  flagged = λ b f. record { each = λ k l u. (let same : k ≡ b = omega arith in ap (λ n. get_or pool n false) same ∙ f) };
-  every = λ b f. f.each b (omega arith) (omega arith);
-}
-
 -- a part is free where its blocks are
 pub part_free : (pool blocks : List Bool) (part : ℕ) → AreBlocks 512 pool blocks → IsFree blocks (part * 512) 512 → IsFree pool (part * 262144) 262144
 part_free pool blocks part a f = record {
@@ -196,15 +169,6 @@ all_blocks size n pos = record {
   every = λ b f. (let fits = free_fits (replicate n true) (b * size) size f pos in let l = length-replicate n true in get_or-replicate (n / size) b true false (block_below b size n pos (omega arith)));
 }
 
--- the flag of a block is set, or left
-pub settled_set : (pool old new : List Bool) (b : ℕ) → b < length old → IsFree pool (b * 512) 512 → new ≡ set old b true → IsBlockJoined 512 pool old new b
-settled_set pool old new b l f e = record {
-  len = ap length e ∙ length-set old b true;
-  others = λ i other. ap (λ (xs : List Bool). get_or xs i false) e ∙ get_or-set_other old b i true false other;
-  flagged = λ q. inr f;
-  every = λ q. rw e (get_or-set_same old b true false l);
-}
-
 pub settled_left : (pool old : List Bool) (b : ℕ) → (IsFree pool (b * 512) 512 → ⊥) → IsBlockJoined 512 pool old old b
 settled_left pool old b none = record {
   len = refl;
@@ -216,9 +180,6 @@ settled_left pool old b none = record {
 -- a block of 512 that has no flag is not free
 pub past_none : (pool old : List Bool) (b : ℕ) → length old ≡ length pool / 512 → length old ≤ b → IsFree pool (b * 512) 512 → ⊥
 past_none pool old b e past f = (let fits = free_fits pool (b * 512) 512 f (omega arith) in omega arith)
-
-pub free_as : (pool : List Bool) (b : ℕ) → AreFree pool (64 * (b * 8)) (64 * 8) → IsFree pool (b * 512) 512
-free_as pool b f = record { each = λ k l u. f.each k (omega arith) (omega arith) }
 
 pub as_free : (pool : List Bool) (b : ℕ) → IsFree pool (b * 512) 512 → AreFree pool (64 * (b * 8)) (64 * 8)
 as_free pool b f = record { each = λ k l u. f.each k (omega arith) (omega arith) }
@@ -269,15 +230,6 @@ module _ {frames blocks parts frames' blocks' parts' : List Bool} (i : IsKept fr
       let a = run_marked 512 frames frames' blocks blocks' b 1 true (omega arith) i.blocks_are m (marked_one blocks blocks' b true l f) in
       kept (b * 512) 512 true m a
       (part_freed 262144 frames frames' parts parts' (b / 512) (b * 512) 512 i.parts_are (omega arith) (omega arith) m (part_settled frames' blocks' parts parts' (b / 512) a g))
-
-  pub part_marked : (g : ℕ) (v : Bool) → g < length parts → AreMarked frames frames' (64 * (g * 4096)) (64 * 4096) v → AreMarked blocks blocks' (64 * (g * 8)) (64 * 8) v → parts' ≡ set parts g v
-      → IsKept frames' blocks' parts'
-  part_marked g v l n o e =
-      let m : AreMarked frames frames' (g * 262144) 262144 v = marked_at frames frames' _ _ (g * 262144) 262144 v (omega arith) refl n in
-      let w : AreMarked frames frames' (g * 512 * 512) (512 * 512) v = marked_at frames frames' _ _ (g * 512 * 512) (512 * 512) v (omega arith) refl n in
-      kept (g * 262144) 262144 v m
-      (run_marked 512 frames frames' blocks blocks' (g * 512) 512 v (omega arith) i.blocks_are w (marked_at blocks blocks' _ _ (g * 512) 512 v (omega arith) refl o))
-      (run_marked 262144 frames frames' parts parts' g 1 v (omega arith) i.parts_are m (marked_one parts parts' g v l e))
 
 -- frames marked one after another
 pub marked_none : (pool : List Bool) (first : ℕ) (v : Bool) → AreMarked pool pool first 0 v

@@ -113,8 +113,7 @@ module _ (s : HartsState) (kept : IsKept s) (n : ℕ) where
           (w.0, λ frame t. older-owned (shared_row s.spec) frame 0 s.requests s.table.leaves x kept.history w.1 t)
       go (Some y) is f =
           let same : y ≡ x = (cc) in
-          let P : Leaf → Type 0 = λ z. array_hit (hart_at n s).array (hart_at n s).space page ≡ Some z in
-          let hit = hit-is (hart_at n s).array (hart_at n s).space page x (subst P same is) in
+          let hit = hit-is (hart_at n s).array (hart_at n s).space page x (subst (λ (z : Leaf). array_hit (hart_at n s).array (hart_at n s).space page ≡ Some z) same is) in
           (hit.covering, λ frame t. reached s kept n x frame hit.held t)
 
   frame-kept : IsFrameKept (hart_at n s) s

@@ -27,8 +27,7 @@ new-leaf s space va o perm (Some at) c ruled is known =
     let block = page-block mode.Sv39 o va (and_first _ _ place.all_aligned) in
     let leaf : Leaf = record { space = space; first = page_of mode.Sv39 va; order = o; frame = at; perm = perm } in
     let same : Insert leaf ≡ c = (cc) in
-    let P : Change → Type 0 = λ d. IsAllowed s d in
-    subst P same (record {
+    subst (λ (d : Change). IsAllowed s d) same (record {
       sound = record {
         valid = record { space_in = place.space_in; pages_in = block.0; pages_aligned = block.1; frames_in = is.fits; frames_aligned = is.aligned };
         apart = no-overlap (shared_row s.spec) s.table.leaves space va o (or-first _ _ (or-second _ _ ruled));
@@ -36,8 +35,7 @@ new-leaf s space va o perm (Some at) c ruled is known =
       };
       free = λ x e.
           let k : leaf ≡ x = (cc) in
-          let Q : Leaf → Type 0 = λ y. IsFree (pages_of y.order) y.frame (kept_leaves s) in
-          subst Q k is.is_free;
+          subst (λ (y : Leaf). IsFree (pages_of y.order) y.frame (kept_leaves s)) k is.is_free;
     })
 
 other : (s : HartsState) (e : Event) (c : Change) → rule (shared_row s.spec) s.table.leaves e ≡ None → change_of (shared_row s.spec) s.table.leaves e ≡ Some c

@@ -6,8 +6,7 @@ use Rattle.xl_hart_laws.proofs.UndoLemmas.{change-known, change-undone}
 pub history-changed : (row : Row) (requests : List Request) (leaves : List Leaf) (c : Change) → IsMapping row leaves → IsSound row leaves c → IsHistory row requests leaves
     → IsHistory row (request_of c leaves ∷ requests) (changed c leaves)
 history-changed row requests leaves c m s h =
-    let P : List Leaf → Type 0 = λ xs. IsHistory row requests xs in
-    (kept-sound row leaves c m s, change-known leaves c, subst P (sym (change-undone row leaves c m s)) h)
+    (kept-sound row leaves c m s, change-known leaves c, subst (λ (xs : List Leaf). IsHistory row requests xs) (sym (change-undone row leaves c m s)) h)
 
 -- a change is undone first
 pub older-changed : (row : Row) (requests : List Request) (leaves : List Leaf) (c : Change) (i : ℕ) → IsMapping row leaves → IsSound row leaves c
@@ -67,11 +66,9 @@ held-more None after leaves x i = i
 same-holds : (frame : ℕ) (x y : Leaf) → y.order ≡ x.order → y.frame ≡ x.frame → holds_frames frame 1 x ≡ true → holds_frames frame 1 y ≡ true
 same-holds frame x y o f h =
     let P : Order → ℕ → Type 0 = λ q n. holds_frames frame 1 (record y { order = q; frame = n }) ≡ true in
-    let Q : ℕ → Type 0 = λ n. P x.order n in
     let a : P x.order x.frame = h in
-    let b : P x.order y.frame = subst Q (sym f) a in
-    let R : Order → Type 0 = λ q. P q y.frame in
-    subst R (sym o) b
+    let b : P x.order y.frame = subst (λ (n : ℕ). P x.order n) (sym f) a in
+    subst (λ (q : Order). P q y.frame) (sym o) b
 
 owned-by : (frame : ℕ) (r : Request) (requests : List Request) (leaves : List Leaf) → IsKnown r leaves → IsOwned frame (undone r leaves ++ held_leaves requests)
     → IsOwned frame (leaves ++ held_leaves (r ∷ requests))
@@ -96,12 +93,10 @@ owned-by frame r requests leaves known o =
     }
     go None a b =
         let P : Option Leaf → Option Leaf → Type 0 = λ p q. In o.leaf (with_held p q (held_leaves requests)) in
-        let Q : Option Leaf → Type 0 = λ q. P (Some o.leaf) q in
-        let R : Option Leaf → Type 0 = λ p. P p r.after in
         let i : P (Some o.leaf) None = inl refl in
         record {
           leaf = o.leaf;
-          member = In-right o.leaf leaves (held_leaves (r ∷ requests)) (subst R (sym b) (subst Q (sym a) i));
+          member = In-right o.leaf leaves (held_leaves (r ∷ requests)) (subst (λ (p : Option Leaf). P p r.after) (sym b) (subst (λ (q : Option Leaf). P (Some o.leaf) q) (sym a) i));
           holds = o.holds;
         }
 

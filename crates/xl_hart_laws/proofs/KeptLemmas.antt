@@ -44,16 +44,12 @@ module _ {spec : HartSpec} {requests : List Request} {leaves : List Leaf} (h : H
   walked-hart : (found : Option Leaf) → ((y : Leaf) → found ≡ Some y → In y leaves) → (other : Hart) → other.space ≡ h.space → other.waiting ≡ h.waiting → other.array ≡ array_walked found h.array
       → IsHart spec requests leaves other
   walked-hart found there other s w a =
-      let P : ℕ → Type 0 = λ n. n < spec.spaces in
-      let Q : ℕ → Type 0 = λ n. n ≤ length requests in
       let R : ℕ → TlbArray → Type 0 = λ n b. (x : Leaf) → InSets x b.sets → IsOfOlder n requests leaves x in
-      let R1 : TlbArray → Type 0 = λ b. R h.waiting b in
-      let R2 : ℕ → Type 0 = λ n. R n other.array in
       record {
-        space_in = subst P (sym s) kept.space_in;
+        space_in = subst (λ (n : ℕ). n < spec.spaces) (sym s) kept.space_in;
         array_is = ap (λ (b : TlbArray). b.spec) a ∙ walked-spec found h.array ∙ kept.array_is;
-        waiting_in = subst Q (sym w) kept.waiting_in;
-        fresh = subst R2 (sym w) (subst R1 (sym a) (walked-fresh found there));
+        waiting_in = subst (λ (n : ℕ). n ≤ length requests) (sym w) kept.waiting_in;
+        fresh = subst (λ (n : ℕ). R n other.array) (sym w) (subst (λ (b : TlbArray). R h.waiting b) (sym a) (walked-fresh found there));
       }
 
   asked-fresh : (n : ℕ) (r : Request) (next : List Leaf) → ((i : ℕ) → older (suc i) (r ∷ requests) next ≡ older i requests leaves) → (x : Leaf) → IsOfOlder n requests leaves x
@@ -102,8 +98,7 @@ fenced-sets (Some old) a x i =
       k.0,
       λ e.
           let same : old ≡ x = (cc) in
-          let P : Leaf → Type 0 = λ y. is_equal y x ≡ true in
-          let t : is_equal old x ≡ true = subst P (sym same) (equal-self x) in
+          let t : is_equal old x ≡ true = subst (λ (y : Leaf). is_equal y x ≡ true) (sym same) (equal-self x) in
           let f : false ≡ true = sym k.1 ∙ t in
           cc,
     )
@@ -117,10 +112,8 @@ module _ {spec : HartSpec} {requests : List Request} {leaves : List Leaf} (h : H
       go false t =
           let k : h.waiting ≤ i = grind (arith, nat_tests) in
           let e : i ≡ suc (h.waiting - 1) = omega arith in
-          let P : ℕ → Type 0 = λ n. In x (older n requests leaves) in
           let last = older-last (h.waiting - 1) requests leaves (record { before = None; after = None }) (let w = kept.waiting_in in omega arith) in
-          let Q : List Leaf → Type 0 = λ xs. In x xs in
-          let m : In x (undone (oldest h requests) (older (h.waiting - 1) requests leaves)) = subst Q last (subst P e is) in
+          let m : In x (undone (oldest h requests) (older (h.waiting - 1) requests leaves)) = subst (λ (xs : List Leaf). In x xs) last (subst (λ (n : ℕ). In x (older n requests leaves)) e is) in
           elim (undone-In (oldest h requests).before (oldest h requests).after (older (h.waiting - 1) requests leaves) x m) [
             | inl f ↦ absurd (other f)
             | inr j ↦ (h.waiting - 1, omega arith, j)
@@ -183,19 +176,16 @@ module _ (s : HartsState) (kept : IsKept s) where
   same-queue : (x : Hart) (i : ℕ) (t : TableState) → IsHart s.spec s.requests s.table.leaves x → x.waiting ≡ (hart_at i s).waiting → t.leaves ≡ s.table.leaves → t.shape ≡ s.table.shape
       → (accepted : ℕ) → IsKept (record s { table = t; harts = set s.harts i x; accepted = accepted })
   same-queue x i t k w l p accepted =
-      let A : List Leaf → Type 0 = λ xs. IsHistory (shared_row s.spec) s.requests xs in
-      let B : List Leaf → Type 0 = λ xs. (n : ℕ) → IsHart s.spec s.requests xs (get_or (set s.harts i x) n (opening_hart s.spec)) in
-      let C : List Leaf → Type 0 = λ xs. (frame : ℕ) → owners frame (xs ++ held_leaves s.requests) ≤ 1 in
       record {
         spec_is = kept.spec_is;
         table_is = rw p kept.table_is;
-        history = subst A (sym l) kept.history;
-        each = subst B (sym l) (each-with x i k);
+        history = subst (λ (xs : List Leaf). IsHistory (shared_row s.spec) s.requests xs) (sym l) kept.history;
+        each = subst (λ (xs : List Leaf). (n : ℕ) → IsHart s.spec s.requests xs (get_or (set s.harts i x) n (opening_hart s.spec))) (sym l) (each-with x i k);
         longest_is = longest-same (opening_hart s.spec) x s.harts i w ∙ kept.longest_is;
         short = kept.short;
         count = length-set s.harts i x ∙ kept.count;
         current_in = let a = kept.current_in in let b = length-set s.harts i x in omega arith;
-        alone = subst C (sym l) kept.alone;
+        alone = subst (λ (xs : List Leaf). (frame : ℕ) → owners frame (xs ++ held_leaves s.requests) ≤ 1) (sym l) kept.alone;
       }
 
   accessed-by : (canonical : Bool) (hit : Option Leaf) (page : ℕ) (reply : Reply) (va : ℕ) → IsKept (accessed_by canonical hit page reply va s)
@@ -222,9 +212,8 @@ module _ (s : HartsState) (kept : IsKept s) where
       let room = room-none s c ruled in
       let row = shared_row s.spec in
       let m = older-mapping row 0 s.requests s.table.leaves kept.history in
-      let P : TableState → Type 0 = λ t. IsKept (record (mapping_changed (Some c) s) { table = t }) in
       let some : 0 < length s.harts = let a = kept.current_in in omega arith in
-      subst P (sym (change-made s.spec c s.table kept.table_is room)) (record {
+      subst (λ (t : TableState). IsKept (record (mapping_changed (Some c) s) { table = t })) (sym (change-made s.spec c s.table kept.table_is room)) (record {
         spec_is = kept.spec_is;
         table_is = made-table s.spec c s.table kept.table_is;
         history = history-changed row s.requests s.table.leaves c m allowed.sound kept.history;

@@ -85,9 +85,8 @@ take-all {A} (suc n) (x ∷ xs) h = ap (λ (ys : List A). x ∷ ys) (take-all n 
 module _ (s : HartsState) (kept : IsKept s) where
   comes : (n : ℕ) → n < length s.harts → ComesIntoQueue s n
   comes n below e c ruled known =
-      let P : HartsState → Type 0 = λ v. queue_of (hart_at n v) v ≡ request_of c s.table.leaves ∷ queue_of (hart_at n s) s in
       let at : get_or (map hart_asked s.harts) n (opening_hart s.spec) ≡ hart_asked (hart_at n s) = mapped-at hart_asked (opening_hart s.spec) s.harts n below in
-      subst P (sym (after-change s e c ruled known))
+      subst (λ (v : HartsState). queue_of (hart_at n v) v ≡ request_of c s.table.leaves ∷ queue_of (hart_at n s) s) (sym (after-change s e c ruled known))
       (ap (λ (h : Hart). take h.waiting (request_of c s.table.leaves ∷ s.requests)) at ∙ take-next (hart_at n s).waiting (request_of c s.table.leaves) s.requests)
 
   module _ (n : ℕ) (ruled : hart_refusal s (step.Take n) ≡ None) (below : n < length s.harts) where

@@ -4,10 +4,6 @@ use Rattle.xl_model_lemmas.proofs.ChangeLemmas.{first-small, other-key, place-sm
 use Rattle.xl_model_lemmas.proofs.MappingLemmas.{named-is}
 use Rattle.xl_model_lemmas.specs.Sorted.{IsSorted}
 
-pub sorted-old : (old : Option Leaf) (xs : List Leaf) → IsSorted xs → IsSorted (without_old old xs)
-sorted-old None xs s = s
-sorted-old (Some x) xs s = sorted-without x.space x.first xs s
-
 -- one leaf goes and another comes, and back
 undone-by : (old new : Option Leaf) (xs : List Leaf) → IsSorted xs → ((x : Leaf) → old ≡ Some x → In x xs)
     → ((x : Leaf) → new ≡ Some x → (z : Leaf) → In z (without_old old xs) → leaf_key z ≡ leaf_key x → ⊥)

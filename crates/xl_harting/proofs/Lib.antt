@@ -1,4 +1,2 @@
 mod Common
-mod ScriptLemmas
 mod EventLemmas
-mod CountLemmas

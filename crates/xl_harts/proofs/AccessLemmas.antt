@@ -154,12 +154,10 @@ walked-by va page kind r w t after old filled new loads walks small is fill repl
 pub access-harts : (s : HartsState) (va : ℕ) (kind : Kind) (r : Reply) (t : TableState) (new : Hart) → IsAccess va kind r s.table t (current_hart s) new → (capacity : ℕ) (pool : List Bool) → IsHarts s capacity pool
     → IsHarts (record s { table = t; harts = set s.harts s.current new }) capacity pool
 access-harts s va kind r t new is capacity pool kept =
-    let P : HartsState → Type 0 = λ v. IsKept v in
     let leaves : t.leaves ≡ s.table.leaves = ap (λ (u : TableState). u.leaves) is.table_is ∙ access-leaves (is_canonical mode.Sv39 va) (array_hit (current_hart s).array (current_hart s).space (page_of mode.Sv39 va)) (current_hart s).space (page_of mode.Sv39 va) s.table in
-    let Q : List Leaf → Type 0 = λ xs. IsPoolOf s.spec.frames (xs ++ held_leaves s.requests) pool in
     record {
-      kept = subst P (sym (access-after s va kind r t new is)) (accessed-kept s kept.kept va kind);
-      pool_is = subst Q (sym leaves) kept.pool_is;
+      kept = subst (λ (v : HartsState). IsKept v) (sym (access-after s va kind r t new is)) (accessed-kept s kept.kept va kind);
+      pool_is = subst (λ (xs : List Leaf). IsPoolOf s.spec.frames (xs ++ held_leaves s.requests) pool) (sym leaves) kept.pool_is;
       room = kept.room;
     }
 

@@ -1,5 +1,5 @@
 -- A command that changes the mapping, where nothing refuses it: the state after it, and what harts keep.
-use Rattle.xl_harts.proofs.Common.{◌++◌, ◌+◌, ◌<◌, ◌^◌, ◌∙◌, ◌∷◌, ◌≡◌, ◌≤◌, [], after_hart_event, after_own, AllShort, answer_by, ap, arith, Bool, brought, Change, change-made, change-none, changed, changed-kept, covers, Err, Event, false, find-In, finds_place, full-none, Hart, hart_asked, hart_change, hart_rule, hart_served, HartSpec, HartsState, has_room, HasNone, held_leaves, In, Insert, inserted, is_leaf, is_some, IsAllowed, IsBlock, IsHarts, IsKept, IsLeafOf, IsLowest, IsMapping, IsNamed, IsNewLeaf, IsNewPlace, IsPoolOf, IsTable, kept_leaves, le-max_left, le-max_right, Leaf, leaf_at, leaf_at_page, leaf_named, length, List, longest, lowest-none, lowest-some, Made, made-leaves, map, mapping_changed, marked, named_rule, no-access, no-fence, no-switch, Node, None, not-full, older-mapping, Option, or-first, or-second, Order, owners, owners-after, owners_by, page_of, pages_of, Perm, plus, pool-stays, pool-with, Protect, Radix, refl, refusal_of, Remove, Request, request_of, room-none, rule, rule-allows, rule-none, Shape, shared_row, Some, state_of, subst, sym, table_after, table_answer, TableState, there_rule, true, unless-true, verdict, ℕ}
+use Rattle.xl_harts.proofs.Common.{◌++◌, ◌+◌, ◌<◌, ◌^◌, ◌∙◌, ◌∷◌, ◌≡◌, ◌≤◌, [], after_hart_event, after_own, AllShort, answer_by, ap, arith, Bool, brought, Change, change-made, change-none, changed, changed-kept, covers, Err, Event, false, find-In, finds_place, full-none, Hart, hart_asked, hart_change, hart_rule, hart_served, HartSpec, HartsState, has_room, HasNone, held_leaves, In, Insert, inserted, is_leaf, is_some, IsAllowed, IsBlock, IsHarts, IsKept, IsLowest, IsMapping, IsNamed, IsNewLeaf, IsNewPlace, IsPoolOf, IsTable, kept_leaves, le-max_left, le-max_right, Leaf, leaf_at, leaf_at_page, leaf_named, length, List, longest, lowest-none, lowest-some, Made, made-leaves, map, mapping_changed, marked, named_rule, no-access, no-fence, no-switch, Node, None, not-full, older-mapping, Option, or-first, or-second, Order, owners, owners-after, owners_by, page_of, pages_of, Perm, plus, pool-stays, pool-with, Protect, Radix, refl, refusal_of, Remove, Request, request_of, room-none, rule, rule-allows, rule-none, Shape, shared_row, Some, state_of, subst, sym, table_after, table_answer, TableState, there_rule, true, unless-true, verdict, ℕ}
 use Rattle.xl_model.specs.declared.work.Refused.{Refused}
 use Rattle.xl_model_lemmas.proofs.CoverLemmas.{named-by}
 use Rattle.xl_harts.proofs.RefusalLemmas.{map-at, map-change, table-limits}
@@ -43,9 +43,6 @@ module _ (s : HartsState) (kept : IsKept s) (space va : ℕ) (o : Order) (old : 
 
   pub old-named : leaf_named space (page_of mode.Sv39 va) o s.table.leaves ≡ Some old
   old-named = named-by (shared_row s.spec) s.table.leaves space (page_of mode.Sv39 va) o old (mapping-of s kept) member is-it
-
-  pub old-valid : IsLeafOf (shared_row s.spec) old
-  old-valid = (mapping-of s kept).valid old member
 
 -- exactly the leaf that a command names is there
 pub named-there : (s : HartsState) → IsKept s → (space va : ℕ) (o : Order) → there_rule (shared_row s.spec) s.table.leaves space va o ≡ None → IsNamed space (page_of mode.Sv39 va) o s.table.leaves
@@ -130,8 +127,7 @@ module _ (s : HartsState) (kept : IsKept s) (e : Event) (c : Change) (ruled : re
     pub harts-after : (capacity : ℕ) (pool : List Bool) → capacity ≡ s.spec.queue → IsPoolOf s.spec.frames (kept_leaves (mapping_changed (Some c) s)) pool
         → IsHarts (state_of s.spec t requests harts s.current (plus s.accepted 1) s.refused) capacity pool
     harts-after capacity pool room tie =
-        let P : HartsState → Type 0 = λ v. IsHarts v capacity pool in
-        subst P (sym changed-is) (record { kept = change-kept; pool_is = tie; room = room })
+        subst (λ (v : HartsState). IsHarts v capacity pool) (sym changed-is) (record { kept = change-kept; pool_is = tie; room = room })
 
 -- a map that nothing refuses
 module _ (s : HartsState) (kept : IsKept s) (space va : ℕ) (o : Order) (perm : Perm) (ruled : refusal_of (event.Map space va o perm) s ≡ None) (pool : List Bool)

@@ -1,9 +1,6 @@
 mod Common
-mod QueueLemmas
 mod RefusalLemmas
 mod ChangeLemmas
-mod TakeLemmas
 mod AccessLemmas
 mod ServeLemmas
 mod StepLemmas
-mod OpenLemmas

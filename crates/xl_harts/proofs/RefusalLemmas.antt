@@ -2,8 +2,7 @@
 use Rattle.xl_harts.proofs.Common.{◌%◌, ◌&&◌, ◌*◌, ◌+◌, ◌-◌, ◌<◌, ◌^◌, ◌∷◌, ◌≡◌, ◌≤◌, [], and_first, ap, arith, Bool, Chained, Change, change_of, change_rule, Cuckoo, Err, Event, false, first_refusal, frames_rule, free-of, get_or, hart_change, hart_refusal, hart_rule, HartSpec, HartsState, has-place, has_room, HasNone, HasPlace, Insert, is_aligned, is_full, IsBlock, IsErrAnd, IsFit, IsFree, IsHartSpec, IsLeafFor, IsLeafOf, IsPage, IsPoolOf, IsTable, kept_leaves, Leaf, leaf_at, leaf_nodes_missing, length, List, list_any, lowest-none, None, not, Ok, Option, or-first, or-second, Order, overlap_rule, page_limit, page_of, pages_of, Perm, place_rule, Protect, Radix, refl, Refusal, refusal_of, refused_unless, Relocate, Remove, Result, rule, Runs, Shape, shared_row, Some, spaces_of, subst, suc, there_rule, true, zero, ℕ}
 use Rattle.xl_model.specs.Frames.{lowest}
 use Rattle.xl_model_lemmas.proofs.LowestLemmas.{lowest-is-lowest}
-use Rattle.xl_model_lemmas.proofs.OrderLemmas.{pages-some}
-use Rattle.xl_model_lemmas.proofs.PlaceLemmas.{page-block}
+use Rattle.xl_model_lemmas.proofs.PlaceLemmas.{page-block, pages-some}
 use Rattle.xl_model_lemmas.specs.Lowest.{IsAnswer}
 use Rattle.xl_hart_model.specs.declared.hart.HartRefusal.TheVariants as why
 use Rattle.xl_model.specs.declared.address.Mode.TheVariants as mode

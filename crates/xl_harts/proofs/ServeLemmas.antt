@@ -15,9 +15,7 @@ pub record IsOnTheWay (all left : List Access) (s : HartsState) (r : Reply) (tab
 -- the current hart may be served
 pub served-now : (s : HartsState) (table : TableState) (h : Hart) → IsCurrent s table h → IsServed s.spec table h
 served-now s table h current =
-    let P : TableState → Type 0 = λ t. IsServed s.spec t h in
-    let Q : Hart → Type 0 = λ g. IsServed s.spec s.table g in
-    subst P (sym current.table_is) (subst Q (sym current.hart_is) (hart-served s current.kept s.current))
+    subst (λ (t : TableState). IsServed s.spec t h) (sym current.table_is) (subst (λ (g : Hart). IsServed s.spec s.table g) (sym current.hart_is) (hart-served s current.kept s.current))
 
 -- an access of the current hart
 abbrev placed : HartsState → TableState → Hart → HartsState
@@ -28,10 +26,9 @@ one-placed s a r t h is = access-after s a.va a.kind r t h is ∙ sym (access-ev
 
 one-current : (s : HartsState) (a : Access) (r : Reply) (t : TableState) (h : Hart) → IsKept s → IsAccess a.va a.kind r s.table t (current_hart s) h → IsCurrent (after_own (event.Access a.va a.kind) s) t h
 one-current s a r t h kept is =
-    let P : HartsState → Type 0 = λ v. IsKept v in
     let e = one-placed s a r t h is in
     record {
-      kept = subst P (sym (access-event s a.va a.kind)) (accessed-kept s kept a.va a.kind);
+      kept = subst (λ (v : HartsState). IsKept v) (sym (access-event s a.va a.kind)) (accessed-kept s kept a.va a.kind);
       table_is = ap (λ (v : HartsState). v.table) e;
       hart_is = sym (get_or-set_same s.harts s.current h (opening_hart s.spec) kept.current_in) ∙ ap (λ (v : HartsState). current_hart v) e;
     }
@@ -39,9 +36,8 @@ one-current s a r t h kept is =
 pub way-goes-on : (all left : List Access) (a : Access) (s : HartsState) (r q : Reply) (t u : TableState) (h g : Hart) → IsOnTheWay all (a ∷ left) s r t h → IsAccess a.va a.kind q t u h g → IsOnTheWay all left s q u g
 way-goes-on all left a s r q t u h g way is =
     let v = way.at in
-    let P : TableState → Type 0 = λ x. IsAccess a.va a.kind q x u h g in
     let Q : Hart → Type 0 = λ x. IsAccess a.va a.kind q v.table u x g in
-    let here : IsAccess a.va a.kind q v.table u (current_hart v) g = subst Q way.current.hart_is (subst P way.current.table_is is) in
+    let here : IsAccess a.va a.kind q v.table u (current_hart v) g = subst Q way.current.hart_is (subst (λ (x : TableState). IsAccess a.va a.kind q x u h g) way.current.table_is is) in
     record {
       at = after_own (event.Access a.va a.kind) v;
       current = one-current v a q u g way.current.kept here;
@@ -82,5 +78,4 @@ all-harts (a ∷ all) s capacity pool kept =
 
 pub served-harts : (all : List Access) (s : HartsState) (r : Reply) (t : TableState) (h : Hart) (capacity : ℕ) (pool : List Bool) → AreServed all s r t h → IsHarts s capacity pool → IsHarts (record s { table = t; harts = set s.harts s.current h }) capacity pool
 served-harts all s r t h capacity pool served kept =
-    let P : HartsState → Type 0 = λ v. IsHarts v capacity pool in
-    subst P (sym (served-placed all s r t h served)) (all-harts all s capacity pool kept)
+    subst (λ (v : HartsState). IsHarts v capacity pool) (sym (served-placed all s r t h served)) (all-harts all s capacity pool kept)

@@ -7,7 +7,7 @@ use Rattle.xl_model.specs.Lines.{image_line}
 use Rattle.xl_model.specs.Nodes.{Node}
 use Rattle.xl_model.specs.Report.{word_lines}
 use Rattle.xl_model.specs.declared.leaf.Leaf.{Leaf}
-use Rattle.xl_outside.proofs.SinkLemmas.{sink_cut, sink_same, sink_then}
+use Rattle.xl_outside.proofs.SinkLemmas.{sink_cut, sink_then}
 use Rattle.xl_outside.specs.Sinks.{SinkAfter, SinkMeaning}
 
 unless-append : (n i w : ℕ) (xs ys : List Word) → unless_zero n i w (xs ++ ys) ≡ unless_zero n i w xs ++ ys
@@ -92,10 +92,6 @@ module _ {K : Type 0} (sink : SinkMeaning K) (name : List ℕ) (leaves : List Le
   -- the first words of the node of a number, if it has one
   abbrev pub NodeLines : ℕ → Option Node → ℕ → K → K → Bool → Type 0
   NodeLines n o i k l whole = IfSome o (λ node. Lines (words_from leaves nodes n node 0 i) k l whole)
-
-  pub no-words : (n : ℕ) (o : Option Node) (k : K) → NodeLines n o 0 k k true
-  no-words n None k = tt
-  no-words n (Some node) k = sink_same sink k
 
   next-words : (n : ℕ) (node : Node) (i w : ℕ) → w ≡ word_of leaves nodes (Some node) i → words_from leaves nodes n node 0 (i + 1) ≡ words_from leaves nodes n node 0 i ++ unless_zero n i w []
   next-words n node i w e =

@@ -3,7 +3,6 @@ use Rattle.xl_lackey.proofs.Common.{if◌then◌else◌, ◌&&◌, ◌*◌, ◌+
 use Rattle.std.proofs.Math.Nat.{eq-or-lt_of_le, pow-le-pow_right}
 use Rattle.std.specs.Char.{digit_value}
 use Rattle.xl_text.proofs.DigitLemmas.{digit_read, no_digit, none_read, number_after}
-use native.Mathlib.Numerals.{unary_clauses}
 use Rattle.xl_lackey.proofs.ByteLemmas.{differs}
 
 -- a digit read is a digit of base 16
@@ -45,9 +44,6 @@ is_length n = nat_le 1 n && nat_le n 16
 abbrev ended : ℕ → ℕ → List ℕ × List ℕ → Option (ℕ × List ℕ)
 ended value count parts =
     before parts.1 (if is_length (count + length parts.0) then hex_value value parts.0 else None)
-
-too_long : (n : ℕ) → is_length (16 + suc n) ≡ false
-too_long n = grind (arith, nat_tests)
 
 -- at the comma
 at_comma : (value count : ℕ) (bs : List ℕ) → count ≤ 16
@@ -172,9 +168,6 @@ after_first text v count h within few =
     let n : 0 + length (take count text) ≡ count = omega (arith, size) in
     sym (ap (λ (k : ℕ). hex_at v k (drop count text)) n) ∙ sym (hex_front 0 v 0 (take count text) (drop count text) h (omega (arith, size)))
     ∙ ap (hex_at 0 0) (take-append-drop count text) ∙ whole_address text
-
-pub power_more : (i : ℕ) → 16 ^ (i + 1) ≡ 16 ^ i * 16
-power_more i = simp unary_clauses refl
 
 pub hex_small : (count value : ℕ) → count ≤ 15 → value < 16 ^ count → value < 2 ^ 60
 hex_small count value h k = omega (arith, pow-le-pow_right {n = 16} (omega arith) {i = count} {j = 15} h)

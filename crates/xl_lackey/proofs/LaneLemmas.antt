@@ -55,8 +55,7 @@ right_of (suc n) b zero h l =
 right_of (suc n) b (suc k) h l =
     let t = both_hold (right_at b (lane_value b) (hex_digit b)) (all_right n (suc b)) h in
     let s : suc b + k ≡ b + suc k = omega arith in
-    let P : ℕ → Type 0 = λ m. right_at m (lane_value m) (hex_digit m) ≡ true in
-    subst P s (right_of n (suc b) k t.1 (omega arith))
+    subst (λ (m : ℕ). right_at m (lane_value m) (hex_digit m) ≡ true) s (right_of n (suc b) k t.1 (omega arith))
 
 by_right : (b v : ℕ) (o : Option ℕ) → right_at b v o ≡ true → v < 16 → o ≡ Some v
 by_right b v None h l = absurd (grind (arith, nat_tests))
@@ -65,8 +64,7 @@ by_right b v (Some d) h l = let e : v ≡ d = grind (arith, nat_tests) in ap Som
 pub lane_digit : (b : ℕ) → b < 256 → lane_value b < 16 → hex_digit b ≡ Some (lane_value b)
 lane_digit b h l =
     let z : 0 + b ≡ b = omega arith in
-    let P : ℕ → Type 0 = λ m. right_at m (lane_value m) (hex_digit m) ≡ true in
-    by_right b (lane_value b) (hex_digit b) (subst P z (right_of 256 0 b all_bytes h)) l
+    by_right b (lane_value b) (hex_digit b) (subst (λ (m : ℕ). right_at m (lane_value m) (hex_digit m) ≡ true) z (right_of 256 0 b all_bytes h)) l
 
 -- so digits in all lanes are the bytes' number
 pub lanes_number : (value : ℕ) (bs : List ℕ) → Each1 (Fits w8) bs → Each1 (λ d. d < 16) (map lane_value bs) → hex_value value bs ≡ Some (number_of value (map lane_value bs))

@@ -47,16 +47,8 @@ most_by (Some d) s = omega (arith, s)
 pub digit_most : (b : ℕ) → digit_or_4096 (hex_digit b) ≤ 4096
 digit_most b = most_by (hex_digit b) (digit_bound b)
 
-less_by : (o : Option ℕ) (v : ℕ) → v ≡ digit_or_4096 o → IfSome o (λ d. d < 16) → v < 4096 → v < 16
-less_by None v e s l = absurd (omega arith)
-less_by (Some d) v e s l = omega (arith, e, s)
-
 pub digit_read : (b v : ℕ) → v ≡ digit_or_4096 (hex_digit b) → v < 4096 → Some v ≡ hex_digit b
 digit_read b v e l = some_by (hex_digit b) v e l
 
 pub digit_refused : (b v : ℕ) → v ≡ digit_or_4096 (hex_digit b) → 16 ≤ v → None ≡ hex_digit b
 digit_refused b v e l = none_by (hex_digit b) v e (digit_bound b) l
-
--- a value that is a place in a page is one of a digit
-pub digit_small : (b v : ℕ) → v ≡ digit_or_4096 (hex_digit b) → v < 4096 → v < 16
-digit_small b v e l = less_by (hex_digit b) v e (digit_bound b) l

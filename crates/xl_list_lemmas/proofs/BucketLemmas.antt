@@ -1,8 +1,10 @@
 -- An item put in front of its bucket: the members, their number and the tags. For chains in words
 -- too.
-use Rattle.xl_list_lemmas.proofs.Common.{◌==◌, ◌∷◌, ◌≡◌, ◌⊎◌, [], ap, arith, cond, false, In, inl, inr, length, List, map, nat_lt, nat_tests, refl, suc, true, ℕ}
+use Rattle.std.proofs.Common.{◌==◌, ◌∷◌, ◌≡◌, ◌⊎◌, [], ap, arith, cond, false, inl, inr, length, List, map, nat_lt, refl, suc, true, ℕ}
+use Rattle.std.proofs.lemmas.Bool.Decides.{nat_tests}
 use Rattle.xl_model.specs.Chains.{bucket_of, in_front_of_bucket}
 use Rattle.xl_list_lemmas.specs.Buckets.{in_front_by}
+use Rattle.xl_list_lemmas.specs.Members.{In}
 
 module _ {A : Type 0} (tag : A → ℕ) (n : ℕ) where
   -- members

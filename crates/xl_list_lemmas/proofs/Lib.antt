@@ -1,7 +1,5 @@
-mod Common
 pub mod BucketLemmas
 pub mod MemberLemmas
 pub mod OnceLemmas
 pub mod RecencyLemmas
-pub mod SameLemmas
 pub mod TallyLemmas

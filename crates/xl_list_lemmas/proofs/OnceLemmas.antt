@@ -1,7 +1,9 @@
 -- Lists in which no member occurs twice: by their members alone it is known which is the shorter.
 -- For lists of free places too.
-use Rattle.xl_list_lemmas.proofs.Common.{◌++◌, ◌==◌, ◌∙◌, ◌∷◌, ◌≡◌, ◌≤◌, [], ap, arith, Bool, cond, false, In, inl, inr, length, List, nat_tests, Once, refl, subst, suc, sym, true, ℕ}
+use Rattle.std.proofs.Common.{◌++◌, ◌==◌, ◌∙◌, ◌∷◌, ◌≡◌, ◌≤◌, [], ap, arith, Bool, cond, false, inl, inr, length, List, refl, subst, suc, sym, true, ℕ}
+use Rattle.std.proofs.lemmas.Bool.Decides.{nat_tests}
 use Rattle.xl_list_lemmas.proofs.MemberLemmas.{In-append, In-left}
+use Rattle.xl_list_lemmas.specs.Members.{In, Once}
 
 module _ {A : Type 0} (eq : A → A → Bool) (is : (x y : A) → eq x y ≡ true → x ≡ y) (own : (x : A) → eq x x ≡ true) where
   unequal : (x y : A) → eq x y ≡ false → x ≡ y → ⊥

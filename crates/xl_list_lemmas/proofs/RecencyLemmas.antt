@@ -1,9 +1,11 @@
 -- Recency lists: what is in them after a touch, a fill and a purge; and each of these under `map`, for lists
 -- of words that are seen as lists of leaves, nodes, sections or ranges (the TLB and the walk caches).
-use Rattle.xl_list_lemmas.proofs.Common.{◌∙◌, ◌∷◌, ◌≡◌, ◌⊎◌, [], ap, Bool, cond, false, find, In, inl, inr, List, map, None, not, Option, refl, Some, subst, sym, true, ℕ}
+use Rattle.std.proofs.Common.{◌∙◌, ◌∷◌, ◌≡◌, ◌⊎◌, [], ap, Bool, cond, false, inl, inr, List, map, None, not, Option, refl, Some, subst, sym, true, ℕ}
 use Rattle.std.proofs.lemmas.List.{take-map}
+use Rattle.std.specs.Prelude.{find}
 use Rattle.xl_model.specs.Recency.{in_front, purged, touched, with_newest, without_first}
 use Rattle.xl_list_lemmas.proofs.MemberLemmas.{filter-In, filter-passes, find-In, take-In}
+use Rattle.xl_list_lemmas.specs.Members.{In}
 
 without-first-In : {A : Type 0} (p : A → Bool) (x : A) (xs : List A) → In x (without_first p xs) → In x xs
 without-first-In p x [] i = i

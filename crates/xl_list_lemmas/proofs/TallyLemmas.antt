@@ -1,7 +1,11 @@
 -- How many members pass a test: of one list after another, of a list that is mapped or filtered,
 -- and where one member alone passes.
-use Rattle.xl_list_lemmas.proofs.Common.{◌&&◌, ◌++◌, ◌+◌, ◌==◌, ◌||◌, ◌∙◌, ◌∷◌, ◌≡◌, ◌≤◌, [], ap, arith, Bool, cond, false, filter, In, inl, inr, length, List, list_any, map, nat_tests, not, Once, refl, subst, sym, true, ℕ}
+use Rattle.std.proofs.Common.{◌&&◌, ◌++◌, ◌+◌, ◌==◌, ◌||◌, ◌∙◌, ◌∷◌, ◌≡◌, ◌≤◌, [], ap, arith, Bool, cond, false, inl, inr, length, List, map, not, refl, subst, sym, true, ℕ}
+use Rattle.std.proofs.lemmas.Bool.Decides.{nat_tests}
+use Rattle.std.specs.List.{list_any}
+use Rattle.std.specs.Prelude.{filter}
 use Rattle.xl_model.specs.Base.{one_if}
+use Rattle.xl_list_lemmas.specs.Members.{In, Once}
 use Rattle.xl_list_lemmas.specs.Tallies.{tally}
 
 pub tally-short : {A : Type 0} (p : A → Bool) (xs : List A) → tally p xs ≤ length xs

@@ -1,10 +1,10 @@
 -- The names that this crate's proofs import from elsewhere, passed on from one place. Declares nothing.
-pub use Rattle.std.proofs.Common.{◌%◌, ◌&&◌, ◌*◌, ◌+◌, ◌-◌, ◌/◌, ◌<◌, ◌==◌, ◌^◌, ◌||◌, ◌∙◌, ◌∷◌, ◌≡◌, ◌≤◌, [], ap, arith, Bool, Err, false, find, inl, inr, is_some, IsErrAnd, length, List, nat_le, nat_lt, None, not, Ok, Option, refl, Result, slice_index_or, Some, subst, suc, sym, true, zero, ℕ}
+pub use Rattle.std.proofs.Common.{◌%◌, ◌&&◌, ◌*◌, ◌+◌, ◌-◌, ◌/◌, ◌<◌, ◌==◌, ◌^◌, ◌||◌, ◌∙◌, ◌∷◌, ◌≡◌, ◌≤◌, [], ap, arith, Bool, Err, false, inl, inr, is_some, IsErrAnd, length, List, nat_le, nat_lt, None, not, Ok, Option, refl, Result, slice_index_or, Some, subst, suc, sym, true, zero, ℕ}
 pub use Rattle.std.proofs.lemmas.Bool.Decides.{nat_tests}
 pub use Rattle.std.specs.List.{list_all, list_any}
 pub use Rattle.std.specs.Prelude.{IfSome, replicate}
 pub use Rattle.xl_frames.specs.Pool.{HasNone, IsFree, marked}
-pub use Rattle.xl_list_lemmas.proofs.MemberLemmas.{any-In, find-In, find-passes, In-any}
+pub use Rattle.xl_list_lemmas.proofs.MemberLemmas.{any-In, find-In, find-passes, In-any, same-tests}
 pub use Rattle.xl_list_lemmas.specs.Members.{In}
 pub use Rattle.xl_model.specs.Addresses.{allows, is_aligned, levels_of, pages_of}
 unfoldable pub use Rattle.xl_model.specs.Addresses.{is_canonical, page_of}
@@ -25,8 +25,7 @@ pub use Rattle.xl_model.specs.Structures.{after_by, answer_by, fence_answer, IsB
 unfoldable pub use Rattle.xl_model.specs.Structures.{table_after, table_answer, table_fenced, table_made, table_walked, walk_answer}
 pub use Rattle.xl_model.specs.Tally.{IsSmall}
 unfoldable pub use Rattle.xl_model.specs.Tally.{count_accepted, count_fence, count_fills, count_invalidated, count_look, count_refusal, count_reply, count_walk, count_work, no_counts}
-pub use Rattle.xl_model.specs.Tlb.{Answer, answer_of, arrays_without, asked, covers_as, first_found, found_as, leaf_count, reaches_leaf, serves_kind, set_at, takes_order, TlbArray}
-unfoldable pub use Rattle.xl_model.specs.Tlb.{array_hit}
+pub use Rattle.xl_model.specs.Tlb.{Answer, answer_of, arrays_without, leaf_count, reaches_leaf, TlbArray}
 pub use Rattle.xl_model.specs.declared.address.Kind.{Kind}
 pub use Rattle.xl_model.specs.declared.address.Mode.{Mode}
 pub use Rattle.xl_model.specs.declared.address.Order.{Order}

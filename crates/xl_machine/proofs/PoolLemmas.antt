@@ -1,6 +1,5 @@
 -- A pool of frames through a change after which each leaf holds the frames that it held.
-use Rattle.xl_machine.proofs.Common.{◌&&◌, ◌+◌, ◌∙◌, ◌≡◌, any-In, ap, at_page, Bool, Change, changed, changed-In, false, holds_frames, In, In-any, inl, inr, IsMapping, IsNewPlace, IsPoolOf, IsSound, Leaf, leaf_named, List, list_any, nat_lt, new-In, new_leaf, not, old-In, old_leaf, Order, pages_of, Perm, Protect, refl, Relocate, Row, Some, stays-changed, subst, sym, true, with_perm, ℕ}
-use Rattle.xl_list_lemmas.proofs.SameLemmas.{same-tests}
+use Rattle.xl_machine.proofs.Common.{◌&&◌, ◌+◌, ◌∙◌, ◌≡◌, any-In, ap, at_page, Bool, Change, changed, changed-In, false, holds_frames, In, In-any, inl, inr, IsMapping, IsNewPlace, IsPoolOf, IsSound, Leaf, leaf_named, List, list_any, nat_lt, new-In, new_leaf, not, old-In, old_leaf, Order, pages_of, Perm, Protect, refl, Relocate, Row, same-tests, Some, stays-changed, subst, sym, true, with_perm, ℕ}
 
 -- tests that agree on all frames make one pool
 pool-same : (frames : ℕ) (xs ys : List Leaf) (pool : List Bool) → IsPoolOf frames xs pool → ((f : ℕ) → list_any (holds_frames f 1) ys ≡ list_any (holds_frames f 1) xs)
@@ -22,8 +21,7 @@ same-frames row leaves c old new f m s is_old is_new order frame = same-tests _ 
         elim (changed-In leaves c x.0 x.1) [
           | inl y ↦
               let same : y.0 ≡ new = (let e : Some y.0 ≡ Some new = sym y.1 ∙ is_new in cc) in
-              let P : Leaf → Type 0 = λ z. holds_frames f 1 z ≡ true in
-              In-any (holds_frames f 1) old leaves (old-In c leaves old is_old) (sym holds ∙ subst P (y.2 ∙ same) x.2)
+              In-any (holds_frames f 1) old leaves (old-In c leaves old is_old) (sym holds ∙ subst (λ (z : Leaf). holds_frames f 1 z ≡ true) (y.2 ∙ same) x.2)
           | inr i ↦ In-any (holds_frames f 1) x.0 leaves i x.2
         ]
 
@@ -32,8 +30,7 @@ same-frames row leaves c old new f m s is_old is_new order frame = same-tests _ 
     other false x h i t =
         In-any (holds_frames f 1) x (changed c leaves) (stays-changed row leaves c x m s i (λ y e same.
         let is : y ≡ old = (let q : Some y ≡ Some old = sym e ∙ is_old in cc) in
-        let P : Leaf → Type 0 = λ z. holds_frames f 1 z ≡ true in
-        let k : true ≡ false = sym (subst P (same ∙ is) t) ∙ h in
+        let k : true ≡ false = sym (subst (λ (z : Leaf). holds_frames f 1 z ≡ true) (same ∙ is) t) ∙ h in
         absurd (cc))) t
 
     after : list_any (holds_frames f 1) leaves ≡ true → list_any (holds_frames f 1) (changed c leaves) ≡ true

@@ -1,8 +1,7 @@
 -- The refusals of a machine, by its questions in turn.
 use Rattle.xl_machine.proofs.Common.{◌*◌, ◌+◌, ◌-◌, ◌<◌, ◌^◌, ◌∷◌, ◌≡◌, ◌≤◌, [], ap, arith, Bool, Err, false, frames_rule, free-of, HasNone, is_aligned, IsBlock, IsErrAnd, IsFree, IsPoolOf as IsPool, IsPoolOf, IsRowFor, Leaf, length, levels_of, List, lowest, lowest-none, None, Ok, Option, Order, overlap_rule, page_of, pages_of, Perm, place_rule, refl, Refusal, Result, Row, rule, rule_of, Served, slice_index_or, Some, subst, suc, TableState, there_of, true, zero, ℕ}
 use Rattle.xl_model_lemmas.proofs.LowestLemmas.{lowest-is-lowest}
-use Rattle.xl_model_lemmas.proofs.OrderLemmas.{pages-some}
-use Rattle.xl_model_lemmas.proofs.PlaceLemmas.{page-block}
+use Rattle.xl_model_lemmas.proofs.PlaceLemmas.{page-block, pages-some}
 use Rattle.xl_model_lemmas.specs.Lowest.{IsAnswer}
 use Rattle.xl_model.specs.declared.event.Event.TheVariants as event
 use Rattle.xl_model.specs.declared.event.Refusal.TheVariants as refused

@@ -22,8 +22,8 @@ pub use Rattle.xl_model.specs.Mapping.{covers, leaf_key, leaf_named, with_leaf, 
 unfoldable pub use Rattle.xl_model.specs.Mapping.{leaf_at_page}
 pub use Rattle.xl_model.specs.Nodes.{free_count, is_below, is_needed, is_under, kept_node, missing, Node, node_at, one_unless, put_first, roots, unless_there, up, with_path}
 unfoldable pub use Rattle.xl_model.specs.Nodes.{in_nodes, leaf_nodes_missing, number_of, only_needed, opening_nodes, with_leaf_nodes, with_node}
-pub use Rattle.xl_model.specs.Placing.{after_attempt, after_placing, AtCap, Attempt, begins, begun_if_full, by_occupant, Candidate, Displaced, Fails, forced_moves, growing_now, growths_left, next_way, no_moves, Placed, Placing, put_in, settled_way, start_way, Succeeds, to_grow, way_at, with_growth}
-unfoldable pub use Rattle.xl_model.specs.Placing.{attempt, forced, insertion, place, placing, settled}
+pub use Rattle.xl_model.specs.Placing.{after_placing, AtCap, Attempt, attempt, begins, begun_if_full, Displaced, Fails, growing_now, growths_left, no_moves, Placed, Placing, placing, settled_way, start_way, Succeeds, way_at}
+unfoldable pub use Rattle.xl_model.specs.Placing.{forced, insertion, place, settled}
 pub use Rattle.xl_model.specs.Ranges.{goes_into, holds_page, joined, range_of_leaf, same_perm}
 unfoldable pub use Rattle.xl_model.specs.Ranges.{ranges_of}
 pub use Rattle.xl_model.specs.Room.{room_for}
@@ -33,8 +33,6 @@ unfoldable pub use Rattle.xl_model.specs.RowRun.{accessed, after_event, fenced, 
 pub use Rattle.xl_model.specs.Rows.{is_table, is_width, is_within, Row}
 pub use Rattle.xl_model.specs.Rules.{change_of}
 unfoldable pub use Rattle.xl_model.specs.Rules.{rule}
-pub use Rattle.xl_model.specs.Scenes.{Live, live_after, lives_after, opened, opening_scene, rows_after, scenes_after, Served, unprinted}
-unfoldable pub use Rattle.xl_model.specs.Scenes.{scene_after}
 pub use Rattle.xl_model.specs.Shapes.{brought, Chained, Cuckoo, CuckooRules, CuckooWays, is_placed, leaf_entry, narrowed, opening_ways, placed_leaf, Radix, Runs, Shape, ways_brought, ways_of, ways_placed, ways_taken, widened, with_ways}
 unfoldable pub use Rattle.xl_model.specs.Shapes.{opening_shape, shape_after}
 pub use Rattle.xl_model.specs.Structures.{after_by, answer_by, finds_place, Made, NoPlace, NoSpace, TableState, Verdict, verdict_by}
@@ -63,15 +61,14 @@ pub use Rattle.xl_model.specs.declared.script.Area.{Area}
 pub use Rattle.xl_model.specs.declared.script.Item.{Item}
 pub use Rattle.xl_model.specs.declared.way.Entry.{Entry}
 pub use Rattle.xl_model.specs.declared.way.Moves.{Moves}
-pub use Rattle.xl_model.specs.declared.way.WayRegs.{WayRegs}
 pub use Rattle.xl_model.specs.declared.work.NoRoom.{NoRoom}
 pub use Rattle.xl_model.specs.declared.work.Refused.{Refused}
 pub use Rattle.xl_model.specs.declared.work.Work.{Work}
 pub use Rattle.xl_model_lemmas.proofs.ChangeLemmas.{changed-In, first-low, first-small, other-key, place-small, stays-changed}
 pub use Rattle.xl_model_lemmas.proofs.LimitLemmas.{limits-changed, limits-fenced, limits-walked, loads-by, shape-same, widened-same}
 pub use Rattle.xl_model_lemmas.proofs.MappingLemmas.{named-In, named-is}
-pub use Rattle.xl_model_lemmas.proofs.OrderLemmas.{level-low, order-same, orders-same}
-pub use Rattle.xl_model_lemmas.proofs.PlacingLemmas.{entries-same, forced-entries, insertion-adds, set-length, settled-entries}
+pub use Rattle.xl_model_lemmas.proofs.PlaceLemmas.{level-low, named-order, named-space, order-same, orders-same}
+pub use Rattle.xl_model_lemmas.proofs.PlacingLemmas.{entries-same, forced-entries, insertion-adds, insertion-by, PlacedBy, placing-by, placing-keeps, set-length, Succeeded}
 pub use Rattle.xl_model_lemmas.proofs.RuleLemmas.{kept-changed, kept-sound, sound-of}
 pub use Rattle.xl_model_lemmas.proofs.WayTallyLemmas.{tally-none, tally-same, tally-with_entry, ways-reworded, ways-without}
 pub use Rattle.xl_model_lemmas.specs.Mappings.{IsFound, IsMapping, IsNewPlace, IsSound}
@@ -81,4 +78,3 @@ pub use Rattle.xl_model_laws.specs.FreshCaches.{CachesFresh, LevelFresh, PageCov
 pub use Rattle.xl_model_laws.specs.Kinds.{alone, AnAccessNeedsItsArraysAlone, AnArrayForOthersStays, arrays_for, ArraysForAllTakeNoNoteOfKinds, AStoreLooksUpAsALoad, at_places, counts_for, StaysAt}
 pub use Rattle.xl_model_laws.specs.Nodes.{AreNodesOf, AreNumbered, HasNumbers, IsNodeOf, RoomIsForAllNodes, root_of, TheNodesAreTheMappings}
 pub use Rattle.xl_model_laws.specs.Runs.{AReplyIsByTheMapping, IsZeroBeyond, NothingIsCountedBeyondTheArrays, TheLeavesAreAMapping, TheLowestIsTheLeast, TheReadsAreTheLoads}
-pub use Rattle.xl_model_laws.specs.Scenes.{EachRowRunsByItself, ItemsMayBeServedInParts, PrintingChangesNoRow, ran_by, rows_by, ThePrintedTextOnlyGrows, WhatIsPrintedFirstIsFirst}

@@ -1,5 +1,5 @@
 -- Nothing is stale: what every event keeps of arrays and caches.
-use Rattle.xl_model_laws.proofs.Common.{◌*◌, ◌+◌, ◌-◌, ◌<◌, ◌∷◌, ◌≡◌, ◌≤◌, [], accessed, after_by, after_event, after_rule, Answer, answer_by, answer_of, arith, Bool, brought, Caches, caches_fenced, caches_purged, CachesFresh, Chained, Change, change_of, changed, changed_by, changed_where, count_look, covers, Cuckoo, CuckooRules, CuckooWays, empty_caches, Event, false, fenced, fills_m2, find, find-In, finds_place, has_room, holds_page, In, in_nodes, is_canonical, is_page_section, is_some, IsFound, IsMapping, IsSound, kept-sound, Kind, Leaf, leaf_at_page, length, level-low, level_of, levels_of, List, looked, looked_by, looked_where, Made, Mode, NoCaches, Node, NodeCaches, None, NoPlace, NoSpace, not, Numbered, old_leaf, only_needed, opening, opening_caches, opening_nodes, opening_shape, Option, Order, page_of, pages_of, purged_at, Radix, Range, range_walk_by, RangeCache, ranges_of, reach_of, reaches_leaf, reaches_range, reaches_space, refl, Refusal, Row, RowState, rule, Runs, same_order, section_caches, section_of_page, SectionCaches, served, Shape, shape_after, Some, sound-of, start_level, subst, suc, sym, Table, table_after, table_answer, table_fenced, table_made, table_walked, TableState, TagsFresh, true, Verdict, verdict, walk_filled, walk_made, walked, ways_brought, ways_taken, widened, zero, ℕ}
+use Rattle.xl_model_laws.proofs.Common.{◌*◌, ◌+◌, ◌-◌, ◌<◌, ◌∷◌, ◌≡◌, ◌≤◌, [], accessed, after_by, after_event, after_rule, Answer, answer_by, answer_of, arith, Bool, brought, Caches, caches_fenced, caches_purged, CachesFresh, Chained, Change, change_of, changed, changed_by, changed_where, count_look, covers, Cuckoo, CuckooRules, CuckooWays, empty_caches, Event, false, fenced, fills_m2, find, find-In, finds_place, has_room, holds_page, In, in_nodes, is_canonical, is_page_section, is_some, IsFound, IsMapping, IsSound, kept-sound, Kind, Leaf, leaf_at_page, length, level-low, level_of, levels_of, List, looked, looked_by, looked_where, Made, Mode, NoCaches, Node, NodeCaches, None, NoPlace, NoSpace, not, Numbered, old_leaf, only_needed, opening, opening_caches, opening_nodes, opening_shape, Option, Order, page_of, pages_of, purged_at, Radix, Range, range_walk_by, RangeCache, ranges_of, reach_of, reaches_leaf, reaches_range, reaches_space, refl, Refusal, Row, RowState, rule, Runs, same_order, section_caches, section_of_page, SectionCaches, served, Shape, shape_after, Some, sound-of, start_level, subst, suc, sym, Table, table_after, table_answer, table_fenced, table_made, table_walked, TagsFresh, true, Verdict, verdict, walk_filled, walk_made, walked, ways_brought, ways_taken, widened, zero, ℕ}
 use Rattle.xl_model.specs.declared.event.Reach.{Reach}
 use Rattle.xl_model_lemmas.proofs.CoverLemmas.{found-leaf}
 use Rattle.xl_model_lemmas.proofs.FreshArrayLemmas.{changed-fresh, filled-fresh, hit-fresh, opening-fresh, without-fresh}
@@ -22,10 +22,6 @@ use Rattle.xl_model.specs.declared.row.Table.TheVariants as table
 ShapeFull : Shape → Caches → List Leaf → Type 0
 ShapeFull (Radix levels spaces nodes) (NodeCaches cs) leaves = NodesFull levels leaves nodes × (length cs < levels)
 ShapeFull shape kept leaves = Unit {0}
-
-record TableFresh (t : TableState) : Type 0 where
-  fresh : CachesFresh t.shape t.caches t.leaves
-  full : ShapeFull t.shape t.caches t.leaves
 
 -- what is known of every leaf
 all-known : (row : Row) (leaves : List Leaf) → IsMapping row leaves → (x : Leaf) → In x leaves → In x leaves × ((e : ℕ) × (x.first ≡ e * pages_of x.order))
@@ -138,18 +134,15 @@ made-shape : (row : Row) (c : Change) (leaves : List Leaf) (shape : Shape) (kept
     → CachesFresh shape kept leaves → ShapeFull shape kept leaves → AfterFresh c leaves shape kept (shape_after c leaves shape)
 unfolding AfterFresh
 made-shape row c leaves (Radix levels spaces nodes) kept m s room fresh full =
-    let P : Shape → Type 0 = λ z. AfterFresh c leaves (Radix levels spaces nodes) kept z in
-    subst P (sym (radix-after c leaves levels spaces nodes)) (made-radix row c leaves levels spaces nodes kept room fresh full)
+    subst (λ (z : Shape). AfterFresh c leaves (Radix levels spaces nodes) kept z) (sym (radix-after c leaves levels spaces nodes)) (made-radix row c leaves levels spaces nodes kept room fresh full)
 made-shape row c leaves (Chained group buckets entries tags) kept m s room fresh full =
     let new = chained-after c leaves group buckets entries tags in
-    let P : Shape → Type 0 = λ z. AfterFresh c leaves (Chained group buckets entries tags) kept z in
-    subst P (sym new.1) (any-chained group buckets entries new.0 _ (changed c leaves))
+    subst (λ (z : Shape). AfterFresh c leaves (Chained group buckets entries tags) kept z) (sym new.1) (any-chained group buckets entries new.0 _ (changed c leaves))
 made-shape row c leaves (Cuckoo rules ways) kept m s room fresh full =
     let P : Shape → Type 0 = λ z. AfterFresh c leaves (Cuckoo rules ways) kept z in
     subst P (sym (cuckoo-after c leaves rules ways)) (made-cuckoo c leaves rules ways (ways_taken c (old_leaf c leaves) (ways_brought rules (brought c leaves) ways)) kept fresh)
 made-shape row c leaves (Runs limit) kept m s room fresh full =
-    let P : Shape → Type 0 = λ z. AfterFresh c leaves (Runs limit) kept z in
-    subst P (sym (runs-after c leaves limit)) (made-runs row c leaves limit kept m s fresh)
+    subst (λ (z : Shape). AfterFresh c leaves (Runs limit) kept z) (sym (runs-after c leaves limit)) (made-runs row c leaves limit kept m s fresh)
 
 -- a refused attempt: the growths alone stay
 refused-shape : (leaf : Option Leaf) (leaves : List Leaf) (shape : Shape) (kept : Caches) → finds_place leaf shape ≡ false
@@ -182,8 +175,7 @@ change-kept : (row : Row) (c : Change) (s : RowState) (v : Verdict) → verdict 
 unfolding verdict table_after table_made AfterFresh
 change-kept row c s Made is sound k =
     let both = made-shape row c s.table.leaves s.table.shape s.table.caches k.mapping sound (made-room _ _ is) k.caches k.full in
-    let P : Verdict → Type 0 = λ v. Kept row (record s { table = after_by v c s.table; arrays = purged_at row c s; counts = (changed_by (answer_by Made c s.table) row c s).counts }) in
-    subst P (sym is) (record {
+    subst (λ (v : Verdict). Kept row (record s { table = after_by v c s.table; arrays = purged_at row c s; counts = (changed_by (answer_by Made c s.table) row c s).counts })) (sym is) (record {
       mapping = kept-sound row s.table.leaves c k.mapping sound;
       arrays = changed-fresh row c s.arrays s.table.leaves k.mapping sound k.arrays;
       caches = both.0;

@@ -1,7 +1,33 @@
 -- Node tags: every node that the mapping needs has a number, and a cached tag has that of its node.
-use Rattle.xl_model_laws.proofs.Common.{◌&&◌, ◌+◌, ◌-◌, ◌<◌, ◌==◌, ◌||◌, ◌∙◌, ◌∷◌, ◌≡◌, ◌≤◌, ◌⊎◌, [], all_without, any-In, ap, arith, Bool, brought, Cached, Change, changed, changed-In, cond, false, free_count, In, In-any, in_nodes, inl, inr, Insert, is_below, is_needed, is_tag, is_under, IsFound, Leaf, leaf_named, leaf_nodes_missing, length, level_of, LevelFresh, List, list_any, named-In, nat_le, nat_lt, nat_tests, new_leaf, newest-In, Node, node_at, node_cache_after, node_caches_after, None, not, not-false, number_of, number_or_0, Numbered, numbered, only_needed, Option, Order, position_from, Protect, purged-In, refl, Relocate, Remove, second_so, slice_index_or, Some, subst, suc, sym, TagFresh, TagsFresh, touched-In, true, up, with_fill, with_leaf_nodes, with_path, with_perm, with_touch, without_items, ℕ}
+use Rattle.xl_model_laws.proofs.Common.{◌&&◌, ◌*◌, ◌+◌, ◌-◌, ◌/◌, ◌<◌, ◌==◌, ◌||◌, ◌∙◌, ◌∷◌, ◌≡◌, ◌≤◌, ◌⊎◌, [], all_without, any-In, ap, arith, Bool, brought, Cached, Change, changed, changed-In, cond, covers, false, free_count, In, In-any, in_nodes, inl, inr, Insert, is_below, is_needed, is_tag, is_under, IsFound, Leaf, leaf_named, leaf_nodes_missing, length, level_of, LevelFresh, List, list_any, named-In, nat_le, nat_lt, nat_tests, new_leaf, newest-In, Node, node_at, node_cache_after, node_caches_after, None, not, not-false, number_of, number_or_0, Numbered, numbered, only_needed, Option, Order, pages_of, position_from, Protect, purged-In, refl, Relocate, Remove, second_so, slice_index_or, Some, subst, suc, sym, TagFresh, TagsFresh, touched-In, true, up, with_fill, with_leaf_nodes, with_path, with_perm, with_touch, without_items, ℕ}
+use Rattle.xl_model_lemmas.proofs.EndLemmas.{up-from}
 use Rattle.xl_model_laws.proofs.NumberLemmas.{kept-at, kept-has, path-at, path-has, path-puts, position-at, position-none}
-use Rattle.xl_model_laws.proofs.UnderLemmas.{covered-under}
+use Rattle.xl_model.specs.declared.address.Order.TheVariants as order
+
+-- a leaf that covers a page is under each slot of the page above its level
+up-one : (e first page : ℕ) → first ≡ e * 512 → first ≤ page → page < first + 512 → page / 512 ≡ first / 512
+up-one e first page a b c = omega arith
+
+up-two : (e first page : ℕ) → first ≡ e * 262144 → first ≤ page → page < first + 262144 → page / 512 / 512 ≡ first / 512 / 512
+up-two e first page a b c = omega arith
+
+up-covers : (space page m : ℕ) (leaf : Leaf) (e : ℕ) → covers space page leaf ≡ true → leaf.first ≡ e * pages_of leaf.order → level_of leaf.order ≤ m → up m leaf.first ≡ up m page
+up-covers space page m leaf e h aligned le =
+    go leaf.order (grind (arith, nat_tests)) (grind (arith, nat_tests)) aligned le
+  where
+    go : (o : Order) → leaf.first ≤ page → page < leaf.first + pages_of o → leaf.first ≡ e * pages_of o → level_of o ≤ m → up m leaf.first ≡ up m page
+    go order.K4 a b c d = let f : leaf.first ≡ page = omega arith in ap (up m) f
+    go order.M2 a b c d = up-from 1 m leaf.first page (sym (up-one e leaf.first page c a b)) d
+    go order.G1 a b c d = up-from 2 m leaf.first page (sym (up-two e leaf.first page c a b)) d
+
+pub covered-under : (space page level : ℕ) (leaf : Leaf) (e : ℕ) → covers space page leaf ≡ true → leaf.first ≡ e * pages_of leaf.order → level_of leaf.order ≤ level
+    → is_under space (suc level) (up (suc level) page) leaf ≡ true
+covered-under space page level leaf e h aligned le =
+    let a : up (suc level) leaf.first ≡ up (suc level) page = up-covers space page (suc level) leaf e h aligned (omega arith) in
+    under-by space (suc level) (up (suc level) leaf.first) (up (suc level) page) leaf (grind (arith, nat_tests)) (omega arith) a refl
+  where
+    under-by : (space l b c : ℕ) (leaf : Leaf) → leaf.space ≡ space → level_of leaf.order < l → b ≡ c → up l leaf.first ≡ b → is_under space l c leaf ≡ true
+    under-by space l b c leaf x y z w = let v : up l leaf.first ≡ c = w ∙ z in grind (arith, nat_tests)
 
 -- every node below the root that the mapping needs is there
 pub record NodesFull (levels : ℕ) (leaves : List Leaf) (nodes : List (Option Node)) : Type 0 where
@@ -36,8 +62,7 @@ wide-puts levels space l block leaf nodes room under below =
     let h : list_any (is_below leaf.space l (up l leaf.first)) (with_path leaf.space leaf.first (level_of leaf.order) (levels - 1 - level_of leaf.order) nodes) ≡ true =
     path-puts leaf.space leaf.first (level_of leaf.order) (levels - 1 - level_of leaf.order) nodes room l b (omega arith) in
     let P : ℕ → Type 0 = λ s. list_any (is_below s l (up l leaf.first)) (with_path leaf.space leaf.first (level_of leaf.order) (levels - 1 - level_of leaf.order) nodes) ≡ true in
-    let Q : ℕ → Type 0 = λ p. list_any (is_below space l p) (with_path leaf.space leaf.first (level_of leaf.order) (levels - 1 - level_of leaf.order) nodes) ≡ true in
-    subst Q c (subst P a h)
+    subst (λ (p : ℕ). list_any (is_below space l p) (with_path leaf.space leaf.first (level_of leaf.order) (levels - 1 - level_of leaf.order) nodes) ≡ true) c (subst P a h)
 
 -- a node that the mapping needs after a change is one that it needed, or the new leaf's
 pub new-brought : (c : Change) (leaves : List Leaf) (y : Leaf) → new_leaf c leaves ≡ Some y
@@ -56,8 +81,7 @@ new-brought (Protect space first o perm) leaves y h = go (leaf_named space first
 
 same-under : (space l block : ℕ) (y z : Leaf) → y.space ≡ z.space → y.first ≡ z.first → y.order ≡ z.order → is_under space l block y ≡ is_under space l block z
 same-under space l block y z a b c =
-    let P : Order → Type 0 = λ o. is_under space l block y ≡ ((y.space == space) && (nat_lt (level_of o) l && (up l y.first == block))) in
-    subst P c refl ∙ rw (a, b) refl
+    subst (λ (o : Order). is_under space l block y ≡ ((y.space == space) && (nat_lt (level_of o) l && (up l y.first == block)))) c refl ∙ rw (a, b) refl
 
 needed-after : (space l block : ℕ) (c : Change) (leaves : List Leaf) → in_nodes space l block (changed c leaves) ≡ true
     → ((y : Leaf) × (brought c leaves ≡ Some y) × (is_under space l block y ≡ true)) ⊎ (in_nodes space l block leaves ≡ true)
@@ -82,9 +106,8 @@ full-after levels c leaves nodes f room = record {
       kept-has levels space l block (changed c leaves) (wide levels (brought c leaves) nodes)
       (elim (needed-after space l block c leaves need) [
         | inl new ↦
-            let P : Option Leaf → Type 0 = λ b. HasPath levels b nodes in
             let Q : Option Leaf → Type 0 = λ b. list_any (is_below space l block) (wide levels b nodes) ≡ true in
-            subst Q (sym new.1) (wide-puts levels space l block new.0 nodes (subst P new.1 room) new.2 below)
+            subst Q (sym new.1) (wide-puts levels space l block new.0 nodes (subst (λ (b : Option Leaf). HasPath levels b nodes) new.1 room) new.2 below)
         | inr old ↦ wide-has levels space l block (brought c leaves) nodes (f.full space l block old below)
       ])
       need;
@@ -204,8 +227,7 @@ tag-walked levels level start (Some leaf) space page leaves nodes c f is below f
           let it : IsFound space page leaves leaf = is leaf refl in
           let under : is_under space (suc level) (up (suc level) page) leaf ≡ true = covered-under space page level leaf it.aligned.0 it.covers_page it.aligned.1 new.0 in
           let need : list_any (is_under space (suc level) (up (suc level) page)) leaves ≡ true = In-any (is_under space (suc level) (up (suc level) page)) leaf leaves it.member under in
-          let P : Numbered → Type 0 = λ x. TagFresh levels level leaves nodes x in
-          subst P (sym new.1) (numbered-fresh levels level space page leaves nodes f below need)
+          subst (λ (x : Numbered). TagFresh levels level leaves nodes x) (sym new.1) (numbered-fresh levels level space page leaves nodes f below need)
     ]
 
 pub tags-walked : (levels level start : ℕ) (found : Option Leaf) (space page : ℕ) (leaves : List Leaf) (nodes : List (Option Node)) (cs : List (Cached Numbered))

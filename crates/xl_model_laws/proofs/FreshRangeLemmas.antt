@@ -136,8 +136,7 @@ has-first order.G1 e f first start page a b c d = omega arith
 holds-old : (old : Leaf) (r : Range) (page : ℕ) → ((e : ℕ) × (old.first ≡ e * pages_of old.order)) → ((e : ℕ) × (r.start ≡ e * pages_of r.order)) → old.order ≡ r.order
     → covers r.space page old ≡ true → holds_page r.space page r ≡ true → holds_page old.space old.first r ≡ true
 holds-old old r page (e, a) (f, b) same c h =
-    let P : Order → Type 0 = λ o. r.start ≡ f * pages_of o in
-    let start_at : r.start ≡ f * pages_of old.order = subst P (sym same) b in
+    let start_at : r.start ≡ f * pages_of old.order = subst (λ (o : Order). r.start ≡ f * pages_of o) (sym same) b in
     let low : r.start ≤ page = grind (arith, nat_tests) in
     let high : page < old.first + pages_of old.order = grind (arith, nat_tests) in
     let first : r.start ≤ old.first = has-first old.order e f old.first r.start page a start_at low high in
@@ -152,12 +151,10 @@ range-stays row c leaves r m s fresh out = record {
       record {
         leaf = p.leaf;
         member = stays-changed row leaves c p.leaf m s p.member (λ y is same.
-            let P : Leaf → Type 0 = λ z. holds_page z.space z.first r ≡ true in
             let yes_holds : holds_page p.leaf.space p.leaf.first r ≡ true =
             holds-old p.leaf r page (m.valid p.leaf p.member).pages_aligned fresh.aligned p.same_order p.covers_page h in
-            let of_y : holds_page y.space y.first r ≡ true = subst P same yes_holds in
-            let Q : Option Leaf → Type 0 = λ o. holds_first o r ≡ false in
-            let not_y : holds_page y.space y.first r ≡ false = subst Q is out in
+            let of_y : holds_page y.space y.first r ≡ true = subst (λ (z : Leaf). holds_page z.space z.first r ≡ true) same yes_holds in
+            let not_y : holds_page y.space y.first r ≡ false = subst (λ (o : Option Leaf). holds_first o r ≡ false) is out in
             let k : false ≡ true = sym not_y ∙ of_y in
             absurd (cc));
         covers_page = p.covers_page;

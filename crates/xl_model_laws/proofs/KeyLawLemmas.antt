@@ -1,11 +1,10 @@
 -- Each leaf of a cuckoo row has its key in one way of its order. Entries are counted by every test, and leaves by the
 -- test of their entries: at each change the two numbers stay the same.
-use Rattle.xl_model_laws.proofs.Common.{◌&&◌, ◌*◌, ◌+◌, ◌/◌, ◌<◌, ◌==◌, ◌^◌, ◌∙◌, ◌≡◌, ◌≤◌, [], any-In, ap, arith, at_page, AtCap, Bool, brought, Chained, Change, changed, cond, Cuckoo, CuckooRules, CuckooWays, entries-same, entries_in, Entry, eq-eqb, false, finds_place, first-low, first-small, first_so, has_key, In, In-any, Insert, insertion-adds, is_placed, is_table, is_width, is_within, IsMapping, IsNewPlace, IsSound, Leaf, leaf_entry, leaf_key, leaf_named, leaf_word, length, levels_of, List, list_all, list_any, map, Mode, named-In, named-is, narrowed, nat_le, nat_tests, None, not, old_leaf, one_if, opening_shape, opening_way, opening_ways, Option, Order, order-same, orders-same, other-key, pages_of, Perm, place-small, Placed, placed_leaf, Placing, Protect, Radix, refl, Relocate, Remove, reworded, Row, run, Runs, same_order, second_so, Shape, shape_after, Some, subst, suc, sym, Table, tally, true, ways-reworded, ways-without, ways_brought, ways_of, ways_placed, ways_taken, WayShape, widened, with_leaf, with_new, with_perm, with_ways, with_word, without_entry, without_leaf, without_old, zero, ℕ}
+use Rattle.xl_model_laws.proofs.Common.{◌&&◌, ◌*◌, ◌+◌, ◌/◌, ◌<◌, ◌==◌, ◌^◌, ◌∙◌, ◌≡◌, ◌≤◌, [], any-In, ap, arith, at_page, AtCap, Bool, brought, Chained, Change, changed, cond, Cuckoo, CuckooRules, CuckooWays, entries-same, entries_in, Entry, eq-eqb, false, finds_place, first-low, first-small, first_so, has_key, In, In-any, Insert, insertion-adds, is_placed, is_table, is_width, is_within, IsMapping, IsNewPlace, IsSound, Leaf, leaf_entry, leaf_key, leaf_named, leaf_word, length, levels_of, List, list_all, list_any, map, Mode, named-In, named-is, named-order, named-space, narrowed, nat_le, nat_tests, None, not, old_leaf, one_if, opening_shape, opening_way, opening_ways, Option, Order, order-same, orders-same, other-key, pages_of, Perm, place-small, Placed, placed_leaf, Placing, Protect, Radix, refl, Relocate, Remove, reworded, Row, run, Runs, same_order, second_so, Shape, shape_after, Some, subst, suc, sym, Table, tally, true, ways-reworded, ways-without, ways_brought, ways_of, ways_placed, ways_taken, WayShape, widened, with_leaf, with_new, with_perm, with_ways, with_word, without_entry, without_leaf, without_old, zero, ℕ}
 use Rattle.std.proofs.lemmas.List.{length-map}
 use Rattle.xl_list_lemmas.proofs.TallyLemmas.{tally-any, tally-each, tally-most, tally-only}
 use Rattle.xl_model_lemmas.proofs.InsertionLemmas.{same-place, without-In, without-other}
 use Rattle.xl_model_lemmas.proofs.LeafTallyLemmas.{sorted-once, tally-less, tally-with}
-use Rattle.xl_model_lemmas.proofs.PlaceLemmas.{named-order, named-space}
 use Rattle.xl_model_laws.proofs.AfterLemmas.{cuckoo-after}
 use Rattle.xl_model_laws.proofs.CapLemmas.{refused-same}
 use Rattle.xl_model_laws.proofs.PlacingLemmas.{insertion-count, lists-length}
@@ -118,9 +117,8 @@ key-place order.G1 s t f g d e a b c h k = (omega arith, omega arith)
 keys-apart : (x y : Leaf) → x.first < 2 ^ 45 → y.first < 2 ^ 45 → ((e : ℕ) × (x.first ≡ e * pages_of x.order)) → ((e : ℕ) × (y.first ≡ e * pages_of y.order))
     → y.order ≡ x.order → (leaf_entry y).key ≡ (leaf_entry x).key → leaf_key y ≡ leaf_key x
 keys-apart x y a b c d same k =
-    let P : Order → Type 0 = λ o. y.first ≡ d.0 * pages_of o in
     let Q : Order → Type 0 = λ o. y.space * 2 ^ 45 + y.first / pages_of o / 1 ≡ (leaf_entry x).key in
-    let r = key-place x.order y.space x.space y.first x.first d.0 c.0 b a (subst P same d.1) c.1 (subst Q same k) in
+    let r = key-place x.order y.space x.space y.first x.first d.0 c.0 b a (subst (λ (o : Order). y.first ≡ d.0 * pages_of o) same d.1) c.1 (subst Q same k) in
     let s : y.space ≡ x.space = r.0 in
     let f : y.first ≡ x.first = r.1 in
     omega arith
@@ -329,10 +327,9 @@ changed-counted row (Relocate space first to o) rules ws leaves m s placed h =
     go None e p = h
     go (Some old) e p =
         let is = named-is space first o old leaves e in
-        let P : Order → Type 0 = λ q. (n : ℕ) × (to ≡ n * pages_of q) in
         moved-counted row rules ws old (record old { first = to }) leaves m (named-In space first o old leaves e)
         (λ z i k. move-apart row leaves space to o old z m s (named-space space first o old is) i k)
-        (move-first row leaves space to o s) (subst P (sym (named-order space first o old is)) s.pages_aligned) p h
+        (move-first row leaves space to o s) (subst (λ (q : Order). (n : ℕ) × (to ≡ n * pages_of q)) (sym (named-order space first o old is)) s.pages_aligned) p h
 
 -- a refused attempt leaves every entry
 refused-counted : (rules : CuckooRules) (ws : CuckooWays) (leaf : Leaf) (leaves : List Leaf) → is_placed (placed_leaf rules ws leaf) ≡ false → IsCounted leaves ws

@@ -37,8 +37,7 @@ changed-keeps : (row : Row) (c : Option Change) (s : RowState) → IsMapping row
 unfolding table_after
 changed-keeps row None s m new = m
 changed-keeps row (Some c) s m new =
-    let P : TableState → Type 0 = λ t. IsMapping row t.leaves in
-    subst P (sym (changed-table (table_answer c s.table) row c s))
+    subst (λ (t : TableState). IsMapping row t.leaves) (sym (changed-table (table_answer c s.table) row c s))
     (table-leaves (IsMapping row) c s.table (verdict c s.table) m (new c refl))
 
 served-keeps : (row : Row) (e : Event) (s : RowState) → IsMapping row s.table.leaves → rule row s.table.leaves e ≡ None → IsMapping row (served row e s).table.leaves

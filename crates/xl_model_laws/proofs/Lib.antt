@@ -1,9 +1,7 @@
 mod Common
-mod RefusalLemmas
 mod RunLemmas
 mod LeafLemmas
 mod ShapeLemmas
-mod SlotLemmas
 mod WayKeepLemmas
 mod WayLemmas
 mod CapLemmas
@@ -18,14 +16,7 @@ mod AfterLemmas
 mod NodeRunLemmas
 mod KeyLawLemmas
 mod KindLemmas
-mod AloneLemmas
-mod ReadLemmas
-mod BeyondLemmas
-mod SectionLawLemmas
 mod NumberLemmas
 mod FreshRangeLemmas
 mod FreshNodeLemmas
-mod UnderLemmas
 mod PlacingLemmas
-mod SceneLemmas
-mod WayTallyLemmas

@@ -8,14 +8,13 @@ same-kind : (a b : Range) (start frame pages : ℕ) (xs : List Leaf) → a.space
     → AreConsecutive a start frame pages xs → AreConsecutive b start frame pages xs
 same-kind a b start frame pages [] s o p h = h
 same-kind a b start frame pages (x ∷ xs) s o p (h1, h2, h3, h4, h5, h6, h7) =
-    let P : Order → Type 0 = λ q. pages_of q ≤ pages in
     let Q : Order → Type 0 = λ q. AreConsecutive b (start + pages_of q) (frame + pages_of q) (pages - pages_of q) xs in (
       h1 ∙ s,
       h2 ∙ o,
       h3 ∙ p,
       h4,
       h5,
-      subst P o h6,
+      subst (λ (q : Order). pages_of q ≤ pages) o h6,
       subst Q o (same-kind a b (start + pages_of a.order) (frame + pages_of a.order) (pages - pages_of a.order) xs s o p h7),
     )
 

@@ -32,8 +32,7 @@ changed-shape : (P : Shape → Type 0) → ShapeKeeps P → (row : Row) (c : Opt
 unfolding table_after
 changed-shape P keeps row None s h = h
 changed-shape P keeps row (Some c) s h =
-    let Q : TableState → Type 0 = λ t. P t.shape in
-    subst Q (sym (changed-table (table_answer c s.table) row c s)) (table-shape P keeps c s.table (verdict c s.table) h)
+    subst (λ (t : TableState). P t.shape) (sym (changed-table (table_answer c s.table) row c s)) (table-shape P keeps c s.table (verdict c s.table) h)
 
 served-shape : (P : Shape → Type 0) → ShapeKeeps P → (row : Row) (e : Event) (s : RowState) → P s.table.shape → P (served row e s).table.shape
 unfolding served fenced table_fenced

@@ -1,5 +1,5 @@
 -- What each step of a way keeps, every insertion and every change of a cuckoo table keeps in each way, and so every run.
-use Rattle.xl_model_laws.proofs.Common.{◌&&◌, ◌++◌, ◌+◌, ◌∷◌, ◌≡◌, ◌≤◌, [], advanced, after_attempt, after_placing, arith, AtCap, Attempt, attempt, begins, begun, begun_if_full, Bool, brought, by_occupant, Candidate, Chained, Change, cond, Cuckoo, CuckooRules, CuckooWays, Displaced, EachWay, Entry, Fails, false, forced, forced_moves, growing_now, growths_left, inl, inr, Insert, insertion, Item, Leaf, leaf_entry, leaf_word, length, levels_of, List, map, map-In, min, Moves, narrowed, next_way, no_moves, None, not, occupant, old_leaf, opening_shape, opening_way, opening_ways, Option, Order, place, Placed, placed_leaf, Placing, placing, Protect, put_in, Radix, refl, Relocate, Remove, Row, run, Runs, settled, settled_way, Shape, shape_after, ShapeEach, slice_set, slots_left, Some, start_way, subst, suc, Succeeds, swapped, sym, Table, to_grow, true, way_at, ways_brought, ways_of, ways_placed, ways_taken, WayShape, widened, with_growth, with_ways, with_word, without_entry, zero, ℕ}
+use Rattle.xl_model_laws.proofs.Common.{◌&&◌, ◌++◌, ◌+◌, ◌∷◌, ◌≡◌, ◌≤◌, [], advanced, after_placing, arith, AtCap, begins, begun, begun_if_full, Bool, brought, Chained, Change, cond, Cuckoo, CuckooRules, CuckooWays, EachWay, Entry, false, forced, growing_now, growths_left, inl, inr, Insert, insertion, Item, Leaf, leaf_entry, leaf_word, levels_of, List, map, map-In, min, Moves, narrowed, no_moves, None, not, old_leaf, opening_shape, opening_way, opening_ways, Option, Order, place, Placed, placed_leaf, PlacedBy, Placing, placing, placing-keeps, Protect, Radix, refl, Relocate, Remove, Row, run, Runs, settled, settled_way, Shape, shape_after, ShapeEach, slice_set, slots_left, Some, subst, suc, swapped, sym, Table, true, way_at, ways_brought, ways_of, ways_placed, ways_taken, WayShape, widened, with_ways, with_word, without_entry, zero, ℕ}
 use Rattle.xl_model_laws.proofs.ShapeLemmas.{run-shape}
 use Rattle.xl_model.specs.declared.address.Order.TheVariants as order
 use Rattle.xl_model.specs.declared.row.Table.TheVariants as table
@@ -42,29 +42,6 @@ module _ (P : WayShape → Type 0) (keeps : WayKeeps P) where
       let found = map-In f v ways i in
       subst P (sym found.2) (keeps found.0 (h found.0 found.1))
 
-  abbrev pub AttemptKeeps : Attempt → Type 0
-  AttemptKeeps (Succeeds ways moved) = EachWay P ways
-  AttemptKeeps Fails = Unit {0}
-
-  attempt-kept : (left : ℕ) (ways : List WayShape) (at : ℕ) (hand : Entry) (moved : List Displaced) → EachWay P ways → AttemptKeeps (attempt left ways at hand moved)
-  unfolding attempt
-  attempt-kept zero ways at hand moved h = go (occupant (way_at ways at) hand.key)
-    where
-      go : (o : Option Entry) → AttemptKeeps (by_occupant o (Succeeds (put_in ways at hand) moved) (λ e. Fails))
-      go None = set-kept ways at (swapped (way_at ways at) hand) h (keeps.swapped_in (way_at ways at) hand (get-kept ways at h))
-      go (Some e) = tt
-  attempt-kept (suc left) ways at hand moved h =
-      go (occupant (way_at ways at) hand.key)
-      (λ e. attempt-kept left (put_in ways at hand) (next_way (length ways) at) e (moved ++ record { key = e.key; way = next_way (length ways) at } ∷ [])
-      (set-kept ways at (swapped (way_at ways at) hand) h (keeps.swapped_in (way_at ways at) hand (get-kept ways at h))))
-    where
-      go : (o : Option Entry)
-          → ((e : Entry) → AttemptKeeps (attempt left (put_in ways at hand) (next_way (length ways) at) e (moved ++ record { key = e.key; way = next_way (length ways) at } ∷ [])))
-          → AttemptKeeps (by_occupant o (Succeeds (put_in ways at hand) moved)
-          (λ e. attempt left (put_in ways at hand) (next_way (length ways) at) e (moved ++ record { key = e.key; way = next_way (length ways) at } ∷ [])))
-      go None next = set-kept ways at (swapped (way_at ways at) hand) h (keeps.swapped_in (way_at ways at) hand (get-kept ways at h))
-      go (Some e) next = next e
-
   growing-now-kept : (w : WayShape) → P w → P (growing_now w)
   growing-now-kept w h = go w.regs.growing refl
     where
@@ -77,30 +54,13 @@ module _ (P : WayShape → Type 0) (keeps : WayKeeps P) where
   forced-kept w h = keeps.advances (slots_left (growing_now w).regs) (growing_now w) (is-growing w) (omega arith) (growing-now-kept w h)
 
   abbrev pub PlacingKeeps : Placing → Type 0
-  PlacingKeeps (Placed ways moved m) = EachWay P ways
-  PlacingKeeps (AtCap ways m) = EachWay P ways
-
-  after-kept : (a : Attempt) (limit : ℕ) (m : Moves) (failed : Moves → Placing) → AttemptKeeps a → ((n : Moves) → PlacingKeeps (failed n)) → PlacingKeeps (after_attempt a limit m failed)
-  after-kept (Succeeds ways moved) limit m failed h next = h
-  after-kept Fails limit m failed h next = next _
+  PlacingKeeps p = PlacedBy (λ us moved. EachWay P us) (λ us. EachWay P us) p
 
   placing-kept : (room limit : ℕ) (ways : List WayShape) (x : Entry) (m : Moves) → EachWay P ways → PlacingKeeps (placing room limit ways x m)
-  unfolding placing
-  placing-kept zero limit ways x m h =
-      after-kept (attempt limit ways (start_way (length ways) x.key) x []) limit m (λ n. AtCap ways n)
-      (attempt-kept limit ways (start_way (length ways) x.key) x [] h) (λ n. h)
-  placing-kept (suc room) limit ways x m h =
-      after-kept (attempt limit ways (start_way (length ways) x.key) x []) limit m
-      (λ n. with_growth (to_grow 0 ways) (AtCap ways n) (λ i. placing room limit (slice_set ways i (forced (way_at ways i))) x (forced_moves (way_at ways i) n)))
-      (attempt-kept limit ways (start_way (length ways) x.key) x [] h)
-      (λ n. grown (to_grow 0 ways) n
-      (λ i. placing-kept room limit (slice_set ways i (forced (way_at ways i))) x (forced_moves (way_at ways i) n)
-      (set-kept ways i (forced (way_at ways i)) h (forced-kept (way_at ways i) (get-kept ways i h)))))
-    where
-      grown : (c : Option Candidate) (n : Moves) → ((i : ℕ) → PlacingKeeps (placing room limit (slice_set ways i (forced (way_at ways i))) x (forced_moves (way_at ways i) n)))
-          → PlacingKeeps (with_growth c (AtCap ways n) (λ i. placing room limit (slice_set ways i (forced (way_at ways i))) x (forced_moves (way_at ways i) n)))
-      grown None n next = h
-      grown (Some c) n next = next c.way
+  placing-kept room limit ways x m h =
+      placing-keeps (λ us. EachWay P us)
+      (λ us at hand k. set-kept us at (swapped (way_at us at) hand) k (keeps.swapped_in (way_at us at) hand (get-kept us at k)))
+      (λ us i k. set-kept us i (forced (way_at us i)) k (forced-kept (way_at us i) (get-kept us i k))) room limit ways x m h
 
   settled-way-kept : (most : ℕ) (w : WayShape) → P w → P (settled_way most w)
   settled-way-kept most w h = go w.regs.growing refl

@@ -1,11 +1,130 @@
 -- Two keys of one way never have one slot, and a refused insertion keeps every key and word.
-use Rattle.xl_model_laws.proofs.Common.{◌+◌, ◌-◌, ◌<◌, ◌==◌, ◌^◌, ◌∙◌, ◌≡◌, ◌≤◌, [], advanced, after_attempt, after_placing, ap, ARefusalKeepsEveryWord, arith, AtCap, Attempt, attempt, begun, begun_regs, Bool, Candidate, cond, entries_of, Entry, eq-eqb, Fails, false, find, find-passes, forced, forced-entries, forced_moves, growths_left, HasPointer, insertion, is_at, IsPointer, KeysHaveTheirSlots, length, List, map, MigratingMovesNoEntry, Moves, nat_tests, no_moves, None, occupant, one_if, opening_way, Option, place, Placed, Placing, placing, refl, regs_after, reworded, slice_set, slot, slot_at, slots_left, SlotsApart, Some, start_way, subst, suc, Succeeds, swapped, sym, tally, tally-none, tally-same, tally-with_entry, ThePointerIsBelowTheSlots, to_grow, true, way_at, WayRegs, WayShape, with_entry, with_growth, with_word, without_entry, without_occupant, zero, ℕ}
+use Rattle.xl_model_laws.proofs.Common.{◌%◌, ◌&&◌, ◌+◌, ◌-◌, ◌<◌, ◌==◌, ◌^◌, ◌∙◌, ◌∷◌, ◌≡◌, ◌≤◌, [], advanced, after_placing, ap, ARefusalKeepsEveryWord, arith, AtCap, Attempt, attempt, begun, begun_regs, Bool, cond, entries_of, Entry, eq-eqb, Fails, false, find, find-passes, forced, forced-entries, growths_left, HasPointer, insertion, is_at, IsPointer, KeysHaveTheirSlots, length, List, map, MigratingMovesNoEntry, Moves, nat_lt, nat_tests, no_moves, None, occupant, one_if, opening_way, Option, place, Placed, PlacedBy, Placing, placing, placing-by, refl, regs_after, reworded, slice_set, slot, slot_at, slots_left, SlotsApart, Some, start_way, subst, Succeeded, Succeeds, swapped, sym, tally, tally-none, tally-same, tally-with_entry, ThePointerIsBelowTheSlots, true, way_at, WayShape, with_entry, with_word, without_entry, without_key, without_occupant, zero-add, ℕ}
+use Rattle.std.proofs.Math.Pow.{mod-mod-pow}
 use Rattle.std.proofs.Math.Seq.{map-set_same}
 use Rattle.std.proofs.lemmas.Nat.{pow_pos}
 use Rattle.xl_model.specs.Hashes.{way_hash}
-use Rattle.xl_model_laws.proofs.SlotLemmas.{before_slot, begun-slot, slot-back}
+use Rattle.xl_model.specs.declared.way.WayRegs.{WayRegs}
 use Rattle.xl_model_laws.proofs.WayKeepLemmas.{run-each, WayKeeps}
-use Rattle.xl_model_laws.proofs.WayTallyLemmas.{tally-le, tally-out, tally-reworded, tally-without_key}
+
+-- Slots of a growing way: the slot before is a function of the slot after, so keys apart stay apart.
+low-bits : (h s : ℕ) → h % 2 ^ (s + 1) % 2 ^ s ≡ h % 2 ^ s
+low-bits h s = let e : s + 1 ≡ 1 + s = omega arith in
+    subst (λ (k : ℕ). h % 2 ^ k % 2 ^ s ≡ h % 2 ^ s) (sym e) (mod-mod-pow h 1 s)
+
+-- the slot before, from the slot after
+abbrev pub before_slot : WayRegs → ℕ → ℕ
+before_slot r i = cond (r.growing && nat_lt (i % 2 ^ r.s) r.p) i (i % 2 ^ r.s)
+
+-- the slots of a hash by the number that its low bits are and the number that one bit more gives
+slot_by : Bool → ℕ → ℕ → ℕ → ℕ
+slot_by growing p low wide = cond (growing && nat_lt low p) wide low
+
+slot-low : (low wide q at m : ℕ) (growing : Bool) → slot_by growing q low wide ≡ at → wide % m ≡ low → low % m ≡ low → at % m ≡ low
+unfolding slot_by
+slot-low low wide q at m growing e a b = go (growing && nat_lt low q) refl
+  where
+    go : (t : Bool) → (growing && nat_lt low q) ≡ t → at % m ≡ low
+    go true t = let f : wide ≡ at = rw t at e in rw (← f) a
+    go false t = let f : low ≡ at = rw t at e in rw (← f) b
+
+twice-low : (h s : ℕ) → h % 2 ^ s % 2 ^ s ≡ h % 2 ^ s
+twice-low h s = rw zero-add at (mod-mod-pow h 0 s)
+
+fits-back : (growing : Bool) (p low wide at at_low : ℕ) → at_low ≡ low → (growing ≡ true → low < p → at ≡ wide)
+    → slot_by growing p low wide ≡ cond (growing && nat_lt at_low p) at at_low
+unfolding slot_by
+fits-back false p low wide at at_low e same = sym e
+fits-back true p low wide at at_low e same =
+    elim (nat_lt low p) as (λ b. nat_lt low p ≡ b → cond (true && b) wide low ≡ cond (true && nat_lt at_low p) at at_low) [
+      | true ↦ λ t. let f : at ≡ wide = same refl (grind (arith, nat_tests)) in let g : nat_lt at_low p ≡ true = rw e t in rw g (sym f)
+      | false ↦ λ t. let g : nat_lt at_low p ≡ false = rw e t in rw g (sym e)
+    ] refl
+
+-- while a way grows further, and where it has doubled
+grown-back : (p n s at h : ℕ) → slot_by true (p + n) (h % 2 ^ s) (h % 2 ^ (s + 1)) ≡ at
+    → slot_by true p (h % 2 ^ s) (h % 2 ^ (s + 1)) ≡ cond (true && nat_lt (at % 2 ^ s) p) at (at % 2 ^ s)
+unfolding slot_by
+grown-back p n s at h e =
+    fits-back true p (h % 2 ^ s) (h % 2 ^ (s + 1)) at (at % 2 ^ s)
+    (slot-low (h % 2 ^ s) (h % 2 ^ (s + 1)) (p + n) at (2 ^ s) true e (low-bits h s) (twice-low h s))
+    (λ t less. sym (below e less))
+  where
+    below : slot_by true (p + n) (h % 2 ^ s) (h % 2 ^ (s + 1)) ≡ at → h % 2 ^ s < p → h % 2 ^ (s + 1) ≡ at
+    below e less = passes (h % 2 ^ s) (h % 2 ^ (s + 1)) (p + n) at (omega arith) e
+      where
+        passes : (low wide q at : ℕ) → low < q → slot_by true q low wide ≡ at → wide ≡ at
+        passes low wide q at less e = let t : nat_lt low q ≡ true = grind (arith, nat_tests) in rw t at e
+
+doubled-back : (p s at h : ℕ) → h % 2 ^ (s + 1) ≡ at
+    → slot_by true p (h % 2 ^ s) (h % 2 ^ (s + 1)) ≡ cond (true && nat_lt (at % 2 ^ s) p) at (at % 2 ^ s)
+doubled-back p s at h e =
+    fits-back true p (h % 2 ^ s) (h % 2 ^ (s + 1)) at (at % 2 ^ s) (rw (← e) (low-bits h s)) (λ t less. sym e)
+
+pub slot-back : (r : WayRegs) (n h at : ℕ) → r.growing ≡ true → slot_at (regs_after n r) h ≡ at → slot_at r h ≡ before_slot r at
+unfolding slot_by
+slot-back r n h at growing e = go (n == slots_left r) refl
+  where
+    start : slot_by true r.p (h % 2 ^ r.s) (h % 2 ^ (r.s + 1)) ≡ cond (true && nat_lt (at % 2 ^ r.s) r.p) at (at % 2 ^ r.s) → slot_at r h ≡ before_slot r at
+    start k = rw growing k
+
+    go : (b : Bool) → (n == slots_left r) ≡ b → slot_at r h ≡ before_slot r at
+    go true t =
+        let regs : regs_after n r ≡ record { s = r.s + 1; p = 0; growing = false } = rw t refl in
+        start (doubled-back r.p r.s at h (subst (λ (q : WayRegs). slot_at q h ≡ at) regs e))
+    go false t =
+        let regs : regs_after n r ≡ record { s = r.s; p = r.p + n; growing = true } = rw (t, growing) refl in
+        start (grown-back r.p n r.s at h (subst (λ (q : WayRegs). slot_at q h ≡ at) regs e))
+
+-- a way that isn't growing and begins to grow: every key stays in its slot
+pub begun-slot : (r : WayRegs) (h : ℕ) → r.growing ≡ false → slot_at (begun_regs r) h ≡ slot_at r h
+begun-slot r h e = rw e (grind (arith, nat_tests))
+
+-- How many entries of one way pass a test: without a key, and with other words.
+pub tally-le : (p q : Entry → Bool) (xs : List Entry) → ((x : Entry) → p x ≡ true → q x ≡ true) → tally p xs ≤ tally q xs
+tally-le p q [] h = omega arith
+tally-le p q (x ∷ xs) h =
+    let rest : tally p xs ≤ tally q xs = tally-le p q xs h in
+    let first : one_if (p x) ≤ one_if (q x) = go (p x) refl in
+    omega arith
+  where
+    go : (b : Bool) → p x ≡ b → one_if (p x) ≤ one_if (q x)
+    go true t = let u : q x ≡ true = h x t in rw (t, u) (omega arith)
+    go false t = rw t (omega arith)
+
+pub tally-without_key : (p : Entry → Bool) (key : ℕ) (xs : List Entry) → tally p (without_key key xs) ≤ tally p xs
+tally-without_key p key [] = omega arith
+tally-without_key p key (y ∷ ys) =
+    elim (y.key == key) as (λ b. tally p (cond b ys (y ∷ without_key key ys)) ≤ one_if (p y) + tally p ys) [
+      | true ↦ omega arith
+      | false ↦ let e : tally p (without_key key ys) ≤ tally p ys = tally-without_key p key ys in omega arith
+    ]
+
+-- where a key's entries pass, and one of them is there, taking it out leaves one fewer
+pub tally-out : (p : Entry → Bool) (e : Entry) (xs : List Entry) → find p xs ≡ Some e → ((x : Entry) → x.key ≡ e.key → p x ≡ true)
+    → tally p (without_key e.key xs) + 1 ≡ tally p xs
+tally-out p e [] found h = absurd (cc)
+tally-out p e (y ∷ ys) found h =
+    elim (y.key == e.key) as (λ b. (y.key == e.key) ≡ b → tally p (cond b ys (y ∷ without_key e.key ys)) + 1 ≡ one_if (p y) + tally p ys) [
+      | true ↦ λ t. let k : p y ≡ true = h y (grind (arith, nat_tests)) in rw k (omega arith)
+      | false ↦ λ t.
+          elim (p y) as (λ b. p y ≡ b → cond b (Some y) (find p ys) ≡ Some e → one_if b + tally p (without_key e.key ys) + 1 ≡ one_if b + tally p ys) [
+            | true ↦ λ u k. let same : y ≡ e = cc in let key : y.key ≡ e.key = ap (λ (x : Entry). x.key) same in absurd (grind (arith, nat_tests))
+            | false ↦ λ u k. let rest : tally p (without_key e.key ys) + 1 ≡ tally p ys = tally-out p e ys k h in omega arith
+          ] refl found
+    ] refl
+
+pub tally-reworded : (p : Entry → Bool) (key word : ℕ) (xs : List Entry) → ((x y : Entry) → x.key ≡ y.key → p x ≡ p y)
+    → tally p (map (reworded key word) xs) ≡ tally p xs
+tally-reworded p key word [] h = refl
+tally-reworded p key word (x ∷ xs) h =
+    let rest : tally p (map (reworded key word) xs) ≡ tally p xs = tally-reworded p key word xs h in
+    let first : p (reworded key word x) ≡ p x = h (reworded key word x) x (go (x.key == key)) in
+    rw (first, rest) refl
+  where
+    go : (b : Bool) → (cond b (record x { word = word }) x).key ≡ x.key
+    go true = refl
+    go false = refl
 
 -- keys of one slot
 same-slot : (r : WayRegs) (number : ℕ) (x y : Entry) → x.key ≡ y.key → slot r number x.key ≡ slot r number y.key
@@ -131,42 +250,22 @@ pub the_pointer_is_below_the_slots : ThePointerIsBelowTheSlots
 the_pointer_is_below_the_slots row items = run-each HasPointer pointer-keeps row items
 
 -- a refusal keeps every key and word
-AsBefore : List WayShape → Placing → Type 0
-AsBefore ways (Placed after moved m) = Unit {0}
-AsBefore ways (AtCap after m) = map entries_of after ≡ map entries_of ways
-
-after-before : (ways : List WayShape) (a : Attempt) (limit : ℕ) (m : Moves) (failed : Moves → Placing) → ((n : Moves) → AsBefore ways (failed n)) → AsBefore ways (after_attempt a limit m failed)
-unfolding AsBefore
-after-before ways (Succeeds after moved) limit m failed next = tt
-after-before ways Fails limit m failed next = next _
+abbrev AsBefore : List WayShape → Placing → Type 0
+AsBefore ways p = PlacedBy (λ us moved. Unit {0}) (λ us. map entries_of us ≡ map entries_of ways) p
 
 set-entries : (ways : List WayShape) (i : ℕ) → map entries_of (slice_set ways i (forced (way_at ways i))) ≡ map entries_of ways
 set-entries ways i = map-set_same entries_of ways i (forced (way_at ways i)) (opening_way 0 0 0) (forced-entries (way_at ways i))
 
-before-through : (ways grown : List WayShape) (p : Placing) → map entries_of grown ≡ map entries_of ways → AsBefore grown p → AsBefore ways p
-unfolding AsBefore
-before-through ways grown (Placed after moved m) e h = tt
-before-through ways grown (AtCap after m) e h = h ∙ e
-
 placing-before : (room limit : ℕ) (ways : List WayShape) (x : Entry) (m : Moves) → AsBefore ways (placing room limit ways x m)
-unfolding placing AsBefore
-placing-before zero limit ways x m =
-    after-before ways (attempt limit ways (start_way (length ways) x.key) x []) limit m (λ n. AtCap ways n) (λ n. refl)
-placing-before (suc room) limit ways x m =
-    after-before ways (attempt limit ways (start_way (length ways) x.key) x []) limit m
-    (λ n. with_growth (to_grow 0 ways) (AtCap ways n) (λ i. placing room limit (slice_set ways i (forced (way_at ways i))) x (forced_moves (way_at ways i) n)))
-    (λ n. grown (to_grow 0 ways) n
-    (λ i. before-through ways (slice_set ways i (forced (way_at ways i))) (placing room limit (slice_set ways i (forced (way_at ways i))) x (forced_moves (way_at ways i) n))
-    (set-entries ways i)
-    (placing-before room limit (slice_set ways i (forced (way_at ways i))) x (forced_moves (way_at ways i) n))))
+placing-before room limit ways x m =
+    placing-by (λ us moved. Unit {0}) (λ us. map entries_of us ≡ map entries_of ways) x limit
+    (λ us h. any (attempt limit us (start_way (length us) x.key) x [])) (λ us i h. set-entries us i ∙ h) room ways m refl
   where
-    grown : (c : Option Candidate) (n : Moves) → ((i : ℕ) → AsBefore ways (placing room limit (slice_set ways i (forced (way_at ways i))) x (forced_moves (way_at ways i) n)))
-        → AsBefore ways (with_growth c (AtCap ways n) (λ i. placing room limit (slice_set ways i (forced (way_at ways i))) x (forced_moves (way_at ways i) n)))
-    grown None n next = refl
-    grown (Some c) n next = next c.way
+    any : (a : Attempt) → Succeeded (λ us moved. Unit {0}) a
+    any (Succeeds us moved) = tt
+    any Fails = tt
 
 refused-before : (most threshold : ℕ) (ways after : List WayShape) (p : Placing) (m : Moves) → AsBefore ways p → after_placing most threshold p ≡ AtCap after m → map entries_of after ≡ map entries_of ways
-unfolding AsBefore
 refused-before most threshold ways after (Placed w moved n) m h e = absurd (cc)
 refused-before most threshold ways after (AtCap w n) m h e = let same : w ≡ after = cc in let P : List WayShape → Type 0 = λ z. map entries_of z ≡ map entries_of ways in subst P same h
 

@@ -2,8 +2,7 @@
 use Rattle.xl_model_lemmas.proofs.Common.{◌*◌, ◌+◌, ◌<◌, ◌^◌, ◌∙◌, ◌≡◌, ◌≤◌, ◌⊎◌, any-false, arith, at_page, Change, changed, false, In, inl, inr, Insert, IsLeafOf, IsMapping, IsNewPlace, IsSound, Leaf, leaf_key, leaf_named, levels_of, List, meets_any, meets_block, Mode, nat_tests, new_leaf, None, old_leaf, Option, Order, pages_of, Perm, Protect, refl, Relocate, Remove, Row, Some, subst, sym, true, with_new, with_perm, without_leaf, without_old, ℕ}
 use Rattle.xl_model_lemmas.proofs.InsertionLemmas.{In-without, same-place, stays-with, with-In, without-In}
 use Rattle.xl_model_lemmas.proofs.MappingLemmas.{named-In, named-is}
-use Rattle.xl_model_lemmas.proofs.OrderLemmas.{pages-some}
-use Rattle.xl_model_lemmas.proofs.PlaceLemmas.{named-space}
+use Rattle.xl_model_lemmas.proofs.PlaceLemmas.{named-space, pages-some}
 use Rattle.xl_model.specs.declared.address.Mode.TheVariants as mode
 use Rattle.xl_model.specs.declared.address.Order.TheVariants as order
 

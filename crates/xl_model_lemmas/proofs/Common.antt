@@ -6,7 +6,7 @@ pub use Rattle.std.specs.Cmp.{first_so, second_so}
 pub use Rattle.std.specs.List.{list_all, list_any}
 pub use Rattle.std.specs.Prelude.{filter, find, replicate}
 pub use Rattle.xl_frames.specs.Pool.{HasNone, IsFree, IsLowest, marked}
-pub use Rattle.xl_list_lemmas.proofs.MemberLemmas.{any-false, any-In, filter-In, filter-passes, find-In, find-only, find-passes, In-any, In-filter, In-map, map-In}
+pub use Rattle.xl_list_lemmas.proofs.MemberLemmas.{any-false, any-In, filter-In, filter-passes, find-In, find-only, find-passes, In-any, In-filter, In-map, map-In, none-any, same-tests}
 pub use Rattle.xl_list_lemmas.proofs.RecencyLemmas.{newest-In, purged-In, touched-In}
 pub use Rattle.xl_list_lemmas.proofs.TallyLemmas.{tally-append, tally-filter, tally-map, tally-only}
 pub use Rattle.xl_list_lemmas.specs.Members.{In, Once}

@@ -111,8 +111,7 @@ takes-old purge.All old = refl
 
 purged-other : (kind : Purge) (old leaf : Leaf) → is_purged kind old leaf ≡ false → leaf ≡ old → ⊥
 purged-other kind old leaf h e =
-    let P : Leaf → Type 0 = λ z. is_purged kind old z ≡ false in
-    let f : is_purged kind old old ≡ false = subst P e h in
+    let f : is_purged kind old old ≡ false = subst (λ (z : Leaf). is_purged kind old z ≡ false) e h in
     let t : is_purged kind old old ≡ true = takes-old kind old in
     let k : false ≡ true = sym f ∙ t in
     absurd (cc)

@@ -3,7 +3,7 @@ use Rattle.xl_model_lemmas.proofs.Common.{◌&&◌, ◌*◌, ◌+◌, ◌/◌, �
 use Rattle.xl_model.proofs.PermLemmas.{bits-same}
 use Rattle.xl_model.specs.Caches.{Cached, has_changed, without_items}
 use Rattle.xl_model.specs.Walks.{is_page_section, section_after, section_of_page}
-use Rattle.xl_model_lemmas.proofs.OrderLemmas.{order-same}
+use Rattle.xl_model_lemmas.proofs.PlaceLemmas.{order-same}
 use Rattle.xl_model.specs.declared.address.Order.TheVariants as order
 
 ways-same : (a b : Option ℕ) → same_way a b ≡ true → a ≡ b
@@ -83,8 +83,7 @@ section-walked size space page leaves ways false None c some fresh s i = fresh s
 section-walked size space page leaves ways true None c some fresh s i =
     elim (newest-In c.width s (section_of_page size space page leaves ways) c.items i) [
       | inl e ↦
-          let P : Section → Type 0 = λ z. SectionFresh size leaves (ways_of size ways) z in
-          subst P (sym e) (record { is = refl; some = some refl })
+          subst (λ (z : Section). SectionFresh size leaves (ways_of size ways) z) (sym e) (record { is = refl; some = some refl })
       | inr j ↦ fresh s j
     ]
 

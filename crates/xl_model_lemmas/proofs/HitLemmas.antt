@@ -53,8 +53,7 @@ answer-held kind (a ∷ arrays) space page answer h = go (asked kind a space pag
     go None is k next = inr (next k)
     go (Some leaf) is k next =
         let same : leaf ≡ answer.leaf = cc in
-        let P : Leaf → Type 0 = λ z. InSets z a.sets in
-        inl (subst P same (hit-is a space page leaf (asked-is kind a space page leaf is)).held)
+        inl (subst (λ (z : Leaf). InSets z a.sets) same (hit-is a space page leaf (asked-is kind a space page leaf is)).held)
 
 pub answer-covers : (kind : Kind) (arrays : List TlbArray) (space page : ℕ) (answer : Answer) → answer_of kind arrays space page ≡ Some answer → covers space page answer.leaf ≡ true
 answer-covers kind [] space page answer h = absurd (cc)
@@ -65,5 +64,4 @@ answer-covers kind (a ∷ arrays) space page answer h = go (asked kind a space p
     go None is k next = next k
     go (Some leaf) is k next =
         let same : leaf ≡ answer.leaf = cc in
-        let P : Leaf → Type 0 = λ z. covers space page z ≡ true in
-        subst P same (hit-is a space page leaf (asked-is kind a space page leaf is)).covering
+        subst (λ (z : Leaf). covers space page z ≡ true) same (hit-is a space page leaf (asked-is kind a space page leaf is)).covering

@@ -1,7 +1,7 @@
 -- Kept leaves: those of one place overlap; their mapping is sorted, and has no others.
 use Rattle.xl_model_lemmas.proofs.Common.{◌<◌, ◌^◌, ◌∷◌, ◌≡◌, [], arith, false, In, inl, inr, IsPlaced, IsSorted, Leaf, leaf_key, List, mapping_of, meets_block, nat_tests, pages_of, true}
 use Rattle.xl_model_lemmas.proofs.InsertionLemmas.{sorted-with, with-In}
-use Rattle.xl_model_lemmas.proofs.OrderLemmas.{pages-some}
+use Rattle.xl_model_lemmas.proofs.PlaceLemmas.{pages-some}
 
 pub meets-sym : (x y : Leaf) → meets_block x.space x.first x.order y ≡ false → meets_block y.space y.first y.order x ≡ false
 meets-sym x y h = grind (arith, nat_tests)

@@ -1,5 +1,4 @@
 mod Common
-pub mod OrderLemmas
 pub mod InsertionLemmas
 pub mod SortedLemmas
 pub mod LowestLemmas

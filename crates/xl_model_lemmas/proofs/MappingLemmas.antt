@@ -18,13 +18,11 @@ kept-with row x xs m is_leaf_of apart frames = record {
     | inl e ↦ elim (with-In b x xs j) [
       | inl f ↦ e ∙ sym f
       | inr k ↦
-          let P : Leaf → Type 0 = λ w. meets_block w.space w.first w.order b ≡ true in
-          absurd (apart b k (subst P e (covers-meets a.space page a b s t)))
+          absurd (apart b k (subst (λ (w : Leaf). meets_block w.space w.first w.order b ≡ true) e (covers-meets a.space page a b s t)))
     ]
     | inr k ↦ elim (with-In b x xs j) [
       | inl f ↦
-          let P : Leaf → Type 0 = λ w. meets_block w.space w.first w.order a ≡ true in
-          absurd (apart a k (subst P f (covers-meets a.space page b a t s)))
+          absurd (apart a k (subst (λ (w : Leaf). meets_block w.space w.first w.order a ≡ true) f (covers-meets a.space page b a t s)))
       | inr l ↦ m.pages a b page k l s t
     ]
   ];
@@ -32,13 +30,11 @@ kept-with row x xs m is_leaf_of apart frames = record {
     | inl e ↦ elim (with-In b x xs j) [
       | inl f ↦ e ∙ sym f
       | inr k ↦
-          let P : Leaf → Type 0 = λ w. holds_frames w.frame (pages_of w.order) b ≡ true in
-          absurd (frames b k (subst P e (holds-meets frame a b s t)))
+          absurd (frames b k (subst (λ (w : Leaf). holds_frames w.frame (pages_of w.order) b ≡ true) e (holds-meets frame a b s t)))
     ]
     | inr k ↦ elim (with-In b x xs j) [
       | inl f ↦
-          let P : Leaf → Type 0 = λ w. holds_frames w.frame (pages_of w.order) a ≡ true in
-          absurd (frames a k (subst P f (holds-meets frame b a t s)))
+          absurd (frames a k (subst (λ (w : Leaf). holds_frames w.frame (pages_of w.order) a ≡ true) f (holds-meets frame b a t s)))
       | inr l ↦ m.frames a b frame k l s t
     ]
   ];
@@ -64,9 +60,8 @@ pub kept-replaced : (row : Row) (old new : Leaf) (xs : List Leaf) → IsMapping 
 kept-replaced row old new xs m i is_leaf_of same_order same_frame apart =
     kept-with row new (without_leaf old.space old.first xs) (kept-without row old.space old.first xs m) is_leaf_of apart
     (λ y j h.
-    let P : ℕ → Type 0 = λ f. holds_frames f (pages_of new.order) y ≡ true in
     let Q : Order → Type 0 = λ o. holds_frames old.frame (pages_of o) y ≡ true in
-    let meets : holds_frames old.frame (pages_of old.order) y ≡ true = subst Q same_order (subst P same_frame h) in
+    let meets : holds_frames old.frame (pages_of old.order) y ≡ true = subst Q same_order (subst (λ (f : ℕ). holds_frames f (pages_of new.order) y ≡ true) same_frame h) in
     let shared = frame-shared old y meets in
     let same : old ≡ y = m.frames old y shared.0 i (without-In y old.space old.first xs j) shared.1 shared.2 in
     without-other y old.space old.first xs j (ap leaf_key (sym same)))
@@ -131,8 +126,7 @@ relocated-by row space to o (Some old) xs m there named fits aligned apart =
     refl refl
     (λ y j h.
     let R : Order → Type 0 = λ q. meets_block old.space to q y ≡ true in
-    let S : ℕ → Type 0 = λ s. meets_block s to o y ≡ true in
-    none-true _ (any-false (meets_block space to o) y xs apart (without-In y old.space old.first xs j)) (subst S is.0 (subst R is.1 h)))
+    none-true _ (any-false (meets_block space to o) y xs apart (without-In y old.space old.first xs j)) (subst (λ (s : ℕ). meets_block s to o y ≡ true) is.0 (subst R is.1 h)))
 
 pub kept-relocated : (row : Row) (space first to : ℕ) (o : Order) (xs : List Leaf) → IsMapping row xs
     → to + pages_of o ≤ 2 ^ (9 * levels_of row.mode) → ((e : ℕ) × (to ≡ e * pages_of o)) → meets_any space to o xs ≡ false

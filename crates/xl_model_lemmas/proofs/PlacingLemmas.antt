@@ -73,30 +73,85 @@ next-in (suc n) at h = mod-less (at + 1) n
     mod-less : (a n : ℕ) → a % suc n < suc n
     mod-less a n = omega arith
 
-Adds : (Entry → Bool) → ℕ → Attempt → Type 0
-Adds p n (Succeeds ways moved) = tally_all p ways ≡ n
-Adds p n Fails = Unit {0}
+-- what holds of the ways, and of what was displaced, where an attempt succeeds
+abbrev pub Succeeded : (List WayShape → List Displaced → Type 0) → Attempt → Type 0
+Succeeded C (Succeeds ways moved) = C ways moved
+Succeeded C Fails = Unit {0}
 
-attempt-adds : (p : Entry → Bool) (left : ℕ) (ways : List WayShape) (at : ℕ) (hand : Entry) (moved : List Displaced) → at < length ways → Adds p (one_if (p hand) + tally_all p ways) (attempt left ways at hand moved)
-unfolding attempt Adds
-attempt-adds p zero ways at hand moved l = go (occupant (way_at ways at) hand.key) refl
+-- What one step of an attempt keeps, the attempt keeps up to an empty slot.
+pub attempt-by : (I : List WayShape → ℕ → Entry → List Displaced → Type 0) (C : List WayShape → List Displaced → Type 0)
+    → ((ways : List WayShape) (at : ℕ) (hand : Entry) (moved : List Displaced) → I ways at hand moved → occupant (way_at ways at) hand.key ≡ None → C (put_in ways at hand) moved)
+    → ((ways : List WayShape) (at : ℕ) (hand : Entry) (moved : List Displaced) (y : Entry) → I ways at hand moved → occupant (way_at ways at) hand.key ≡ Some y
+        → I (put_in ways at hand) (next_way (length ways) at) y (moved ++ record { key = y.key; way = next_way (length ways) at } ∷ []))
+    → (left : ℕ) (ways : List WayShape) (at : ℕ) (hand : Entry) (moved : List Displaced) → I ways at hand moved → Succeeded C (attempt left ways at hand moved)
+unfolding attempt
+attempt-by I C done next zero ways at hand moved h = go (occupant (way_at ways at) hand.key) refl
   where
-    go : (o : Option Entry) → occupant (way_at ways at) hand.key ≡ o → Adds p (one_if (p hand) + tally_all p ways) (by_occupant o (Succeeds (put_in ways at hand) moved) (λ e. Fails))
-    go None e = let a = put-adds p ways at hand None l e in omega arith
-    go (Some y) e = tt
-attempt-adds p (suc left) ways at hand moved l =
+    go : (o : Option Entry) → occupant (way_at ways at) hand.key ≡ o → Succeeded C (by_occupant o (Succeeds (put_in ways at hand) moved) (λ e. Fails))
+    go None none = done ways at hand moved h none
+    go (Some y) some = tt
+attempt-by I C done next (suc left) ways at hand moved h =
     go (occupant (way_at ways at) hand.key) refl
-    (λ e. attempt-adds p left (put_in ways at hand) (next_way (length ways) at) e (moved ++ record { key = e.key; way = next_way (length ways) at } ∷ [])
-    (subst (λ n. next_way (length ways) at < n) (sym (set-length ways at (swapped (way_at ways at) hand))) (next-in (length ways) at l)))
+    (λ y some. attempt-by I C done next left (put_in ways at hand) (next_way (length ways) at) y (moved ++ record { key = y.key; way = next_way (length ways) at } ∷ [])
+    (next ways at hand moved y h some))
   where
     go : (o : Option Entry) → occupant (way_at ways at) hand.key ≡ o
-        → ((e : Entry) → Adds p (one_if (p e) + tally_all p (put_in ways at hand)) (attempt left (put_in ways at hand) (next_way (length ways) at) e (moved ++ record { key = e.key; way = next_way (length ways) at } ∷ [])))
-        → Adds p (one_if (p hand) + tally_all p ways) (by_occupant o (Succeeds (put_in ways at hand) moved)
-        (λ e. attempt left (put_in ways at hand) (next_way (length ways) at) e (moved ++ record { key = e.key; way = next_way (length ways) at } ∷ [])))
-    go None e next = let a = put-adds p ways at hand None l e in omega arith
-    go (Some y) e next =
-        let a : one_if (p y) + tally_all p (put_in ways at hand) ≡ one_if (p hand) + tally_all p ways = (let b = put-adds p ways at hand (Some y) l e in omega arith) in
-        subst (λ n. Adds p n (attempt left (put_in ways at hand) (next_way (length ways) at) y (moved ++ record { key = y.key; way = next_way (length ways) at } ∷ []))) a (next y)
+        → ((y : Entry) → occupant (way_at ways at) hand.key ≡ Some y
+            → Succeeded C (attempt left (put_in ways at hand) (next_way (length ways) at) y (moved ++ record { key = y.key; way = next_way (length ways) at } ∷ [])))
+        → Succeeded C (by_occupant o (Succeeds (put_in ways at hand) moved)
+        (λ y. attempt left (put_in ways at hand) (next_way (length ways) at) y (moved ++ record { key = y.key; way = next_way (length ways) at } ∷ [])))
+    go None none rest = done ways at hand moved h none
+    go (Some y) some rest = rest y some
+
+abbrev pub PlacedBy : (List WayShape → List Displaced → Type 0) → (List WayShape → Type 0) → Placing → Type 0
+PlacedBy C Q (Placed ways moved m) = C ways moved
+PlacedBy C Q (AtCap ways m) = Q ways
+
+after-by : (C : List WayShape → List Displaced → Type 0) (Q : List WayShape → Type 0) (a : Attempt) (limit : ℕ) (m : Moves) (failed : Moves → Placing)
+    → Succeeded C a → ((n : Moves) → PlacedBy C Q (failed n)) → PlacedBy C Q (after_attempt a limit m failed)
+after-by C Q (Succeeds ways moved) limit m failed h next = h
+after-by C Q Fails limit m failed h next = next _
+
+-- What each attempt gives, and each growth keeps, is so of the placing.
+pub placing-by : (C : List WayShape → List Displaced → Type 0) (Q : List WayShape → Type 0) (x : Entry) (limit : ℕ)
+    → ((ways : List WayShape) → Q ways → Succeeded C (attempt limit ways (start_way (length ways) x.key) x []))
+    → ((ways : List WayShape) (i : ℕ) → Q ways → Q (slice_set ways i (forced (way_at ways i))))
+    → (room : ℕ) (ways : List WayShape) (m : Moves) → Q ways → PlacedBy C Q (placing room limit ways x m)
+unfolding placing
+placing-by C Q x limit tries grows zero ways m h =
+    after-by C Q (attempt limit ways (start_way (length ways) x.key) x []) limit m (λ n. AtCap ways n) (tries ways h) (λ n. h)
+placing-by C Q x limit tries grows (suc room) ways m h =
+    after-by C Q (attempt limit ways (start_way (length ways) x.key) x []) limit m
+    (λ n. with_growth (to_grow 0 ways) (AtCap ways n) (λ i. placing room limit (slice_set ways i (forced (way_at ways i))) x (forced_moves (way_at ways i) n)))
+    (tries ways h)
+    (λ n. grown (to_grow 0 ways) n (λ i. placing-by C Q x limit tries grows room (slice_set ways i (forced (way_at ways i))) (forced_moves (way_at ways i) n) (grows ways i h)))
+  where
+    grown : (c : Option Candidate) (n : Moves) → ((i : ℕ) → PlacedBy C Q (placing room limit (slice_set ways i (forced (way_at ways i))) x (forced_moves (way_at ways i) n)))
+        → PlacedBy C Q (with_growth c (AtCap ways n) (λ i. placing room limit (slice_set ways i (forced (way_at ways i))) x (forced_moves (way_at ways i) n)))
+    grown None n next = h
+    grown (Some c) n next = next c.way
+
+-- What each put and each growth keeps of the ways, the placing keeps.
+pub placing-keeps : (Q : List WayShape → Type 0)
+    → ((ways : List WayShape) (at : ℕ) (hand : Entry) → Q ways → Q (put_in ways at hand))
+    → ((ways : List WayShape) (i : ℕ) → Q ways → Q (slice_set ways i (forced (way_at ways i))))
+    → (room limit : ℕ) (ways : List WayShape) (x : Entry) (m : Moves) → Q ways → PlacedBy (λ us moved. Q us) Q (placing room limit ways x m)
+placing-keeps Q puts grows room limit ways x m h =
+    placing-by (λ us moved. Q us) Q x limit
+    (λ us k. attempt-by (λ vs at hand moved. Q vs) (λ vs moved. Q vs) (λ vs at hand moved i none. puts vs at hand i) (λ vs at hand moved y i some. puts vs at hand i)
+    limit us (start_way (length us) x.key) x [] k)
+    grows room ways m h
+
+attempt-adds : (p : Entry → Bool) (n left : ℕ) (ways : List WayShape) (at : ℕ) (hand : Entry) → at < length ways → one_if (p hand) + tally_all p ways ≡ n
+    → Succeeded (λ after moved. tally_all p after ≡ n) (attempt left ways at hand [])
+attempt-adds p n left ways at hand l h =
+    attempt-by (λ us at hand moved. (at < length us) × (one_if (p hand) + tally_all p us ≡ n)) (λ us moved. tally_all p us ≡ n)
+    (λ us at hand moved i none. let a = put-adds p us at hand None i.0 none in let b = i.1 in omega arith)
+    (λ us at hand moved y i some. (
+      subst (λ k. next_way (length us) at < k) (sym (set-length us at (swapped (way_at us at) hand))) (next-in (length us) at i.0),
+      (let a = put-adds p us at hand (Some y) i.0 some in let b = i.1 in omega arith),
+    ))
+    left ways at hand [] (l, h)
 
 -- ways with the same lists have the same entries
 pub entries-same : (xs ys : List WayShape) → map entries_of xs ≡ map entries_of ys → entries_in xs ≡ entries_in ys
@@ -119,36 +174,9 @@ forced-entries w = go w.regs.growing
 grown-same : (ways : List WayShape) (i : ℕ) → entries_in (slice_set ways i (forced (way_at ways i))) ≡ entries_in ways
 grown-same ways i = entries-same (slice_set ways i (forced (way_at ways i))) ways (map-set_same entries_of ways i (forced (way_at ways i)) (opening_way 0 0 0) (forced-entries (way_at ways i)))
 
-PlacingAdds : (Entry → Bool) → ℕ → Placing → Type 0
-PlacingAdds p n (Placed ways moved m) = (tally_all p ways ≡ n)
-PlacingAdds p n (AtCap ways m) = Unit {0}
-
-after-adds : (p : Entry → Bool) (n : ℕ) (a : Attempt) (limit : ℕ) (m : Moves) (failed : Moves → Placing) → Adds p n a → ((k : Moves) → PlacingAdds p n (failed k)) → PlacingAdds p n (after_attempt a limit m failed)
-unfolding Adds PlacingAdds
-after-adds p n (Succeeds ways moved) limit m failed h next = h
-after-adds p n Fails limit m failed h next = next _
-
 start-in : (count key : ℕ) → 0 < count → start_way count key < count
 start-in zero key h = elim h [ ]
 start-in (suc n) key h = omega arith
-
-placing-adds : (p : Entry → Bool) (room limit : ℕ) (ways : List WayShape) (x : Entry) (m : Moves) → 0 < length ways → PlacingAdds p (one_if (p x) + tally_all p ways) (placing room limit ways x m)
-unfolding placing PlacingAdds
-placing-adds p zero limit ways x m l =
-    after-adds p (one_if (p x) + tally_all p ways) (attempt limit ways (start_way (length ways) x.key) x []) limit m (λ n. AtCap ways n)
-    (attempt-adds p limit ways (start_way (length ways) x.key) x [] (start-in (length ways) x.key l)) (λ n. tt)
-placing-adds p (suc room) limit ways x m l =
-    after-adds p (one_if (p x) + tally_all p ways) (attempt limit ways (start_way (length ways) x.key) x []) limit m
-    (λ n. with_growth (to_grow 0 ways) (AtCap ways n) (λ i. placing room limit (slice_set ways i (forced (way_at ways i))) x (forced_moves (way_at ways i) n)))
-    (attempt-adds p limit ways (start_way (length ways) x.key) x [] (start-in (length ways) x.key l))
-    (λ n. grown (to_grow 0 ways) n
-    (λ i. subst (λ es. PlacingAdds p (one_if (p x) + tally p es) (placing room limit (slice_set ways i (forced (way_at ways i))) x (forced_moves (way_at ways i) n))) (grown-same ways i)
-    (placing-adds p room limit (slice_set ways i (forced (way_at ways i))) x (forced_moves (way_at ways i) n) (subst (λ c. 0 < c) (sym (set-length ways i (forced (way_at ways i)))) l))))
-  where
-    grown : (c : Option Candidate) (n : Moves) → ((i : ℕ) → PlacingAdds p (one_if (p x) + tally_all p ways) (placing room limit (slice_set ways i (forced (way_at ways i))) x (forced_moves (way_at ways i) n)))
-        → PlacingAdds p (one_if (p x) + tally_all p ways) (with_growth c (AtCap ways n) (λ i. placing room limit (slice_set ways i (forced (way_at ways i))) x (forced_moves (way_at ways i) n)))
-    grown None n next = tt
-    grown (Some c) n next = next c.way
 
 pub settled-entries : (most threshold : ℕ) (ways : List WayShape) → map entries_of (settled most threshold ways) ≡ map entries_of ways
 unfolding settled advanced begun
@@ -162,14 +190,30 @@ settled-entries most threshold (w ∷ ways) =
     two : (v : WayShape) → (settled_way most v).entries ≡ v.entries
     two v = elim v.regs.growing as (λ b. (cond b (advanced (min most (slots_left v.regs)) v) v).entries ≡ v.entries) [ true ↦ refl | false ↦ refl ]
 
+-- An insertion that is placed has the entries of the ways that its attempt left.
+pub insertion-by : (C : List WayShape → List Displaced → Type 0) (Q : List WayShape → Type 0) (limit most threshold : ℕ) (ways after : List WayShape) (x : Entry) (moved : List Displaced) (m : Moves)
+    → PlacedBy C Q (placing (growths_left ways) limit ways x no_moves) → insertion limit most threshold ways x ≡ Placed after moved m
+    → (us : List WayShape) × (map entries_of after ≡ map entries_of us) × C us moved
+unfolding insertion place
+insertion-by C Q limit most threshold ways after x moved m h e = go (placing (growths_left ways) limit ways x no_moves) h e
+  where
+    go : (q : Placing) → PlacedBy C Q q → after_placing most threshold q ≡ Placed after moved m → (us : List WayShape) × (map entries_of after ≡ map entries_of us) × C us moved
+    go (Placed us mv n) h k =
+        let same : settled most threshold us ≡ after = cc in
+        let known : mv ≡ moved = cc in
+        (us, ap (λ (vs : List WayShape). map entries_of vs) (sym same) ∙ settled-entries most threshold us, subst (C us) known h)
+    go (AtCap us n) h k = absurd (cc)
+
 -- after an insertion each test passes as many entries as before, and the new one
 pub insertion-adds : (p : Entry → Bool) (limit most threshold : ℕ) (ways after : List WayShape) (x : Entry) (moved : List Displaced) (m : Moves) → 0 < length ways
     → insertion limit most threshold ways x ≡ Placed after moved m → tally_all p after ≡ one_if (p x) + tally_all p ways
-unfolding insertion place PlacingAdds
-insertion-adds p limit most threshold ways after x moved m l e = go (placing (growths_left ways) limit ways x no_moves) (placing-adds p (growths_left ways) limit ways x no_moves l) e
-  where
-    go : (q : Placing) → PlacingAdds p (one_if (p x) + tally_all p ways) q → after_placing most threshold q ≡ Placed after moved m → tally_all p after ≡ one_if (p x) + tally_all p ways
-    go (Placed vs mv n) h k =
-        let same : settled most threshold vs ≡ after = cc in
-        ap (λ (us : List WayShape). tally_all p us) (sym same) ∙ ap (tally p) (entries-same (settled most threshold vs) vs (settled-entries most threshold vs)) ∙ h
-    go (AtCap vs n) h k = absurd (cc)
+insertion-adds p limit most threshold ways after x moved m l e =
+    let n : ℕ = one_if (p x) + tally_all p ways in
+    let C : List WayShape → List Displaced → Type 0 = λ us mv. tally_all p us ≡ n in
+    let Q : List WayShape → Type 0 = λ us. (0 < length us) × (tally_all p us ≡ tally_all p ways) in
+    let r = insertion-by C Q limit most threshold ways after x moved m
+    (placing-by C Q x limit
+    (λ us h. attempt-adds p n limit us (start_way (length us) x.key) x (start-in (length us) x.key h.0) (ap (λ k. one_if (p x) + k) h.1))
+    (λ us i h. (subst (λ c. 0 < c) (sym (set-length us i (forced (way_at us i)))) h.0, ap (tally p) (grown-same us i) ∙ h.1))
+    (growths_left ways) ways no_moves (l, refl)) e in
+    ap (tally p) (entries-same after r.0 r.1) ∙ r.2

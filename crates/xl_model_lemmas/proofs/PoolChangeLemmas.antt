@@ -1,8 +1,7 @@
 -- A pool of frames through a change: a block is taken for a new leaf, or given back for one that
 -- goes.
-use Rattle.xl_model_lemmas.proofs.Common.{◌+◌, ◌<◌, ◌∙◌, ◌≡◌, ◌≤◌, any-false, any-In, ap, arith, Bool, Change, changed, false, holds_frames, In, In-any, inl, inr, Insert, IsFree, IsFreeOf, IsMapping, IsPoolOf, Leaf, leaf_key, leaf_named, length, List, list_any, marked, nat_lt, nat_tests, new_leaf, not, old_leaf, Order, pages_of, Protect, refl, Relocate, Remove, Row, slice_index_or, Some, subst, sym, true, with_leaf, without_leaf, without_old, ℕ}
+use Rattle.xl_model_lemmas.proofs.Common.{◌+◌, ◌<◌, ◌∙◌, ◌≡◌, ◌≤◌, any-false, any-In, ap, arith, Bool, Change, changed, false, holds_frames, In, In-any, inl, inr, Insert, IsFree, IsFreeOf, IsMapping, IsPoolOf, Leaf, leaf_key, leaf_named, length, List, list_any, marked, nat_lt, nat_tests, new_leaf, none-any, not, old_leaf, Order, pages_of, Protect, refl, Relocate, Remove, Row, same-tests, slice_index_or, Some, subst, sym, true, with_leaf, without_leaf, without_old, ℕ}
 use Rattle.xl_frames.proofs.MarkLemmas.{length-marked, marked_above, marked_below, marked_inside}
-use Rattle.xl_list_lemmas.proofs.SameLemmas.{none-any, same-tests}
 use Rattle.xl_model_lemmas.proofs.InsertionLemmas.{In-with, In-without, same-place, with-In, without-In, without-other}
 use Rattle.xl_model_lemmas.proofs.MappingLemmas.{named-In}
 use Rattle.xl_model_lemmas.proofs.PoolLemmas.{no-leaf}
@@ -124,16 +123,14 @@ gone-outside row leaves old f m i h = same-tests _ _
     (λ t. let x = any-In (holds_frames f 1) leaves t in
     In-any (holds_frames f 1) x.0 (without_leaf old.space old.first leaves)
     (In-without x.0 old.space old.first leaves x.1 (λ e.
-    let P : Leaf → Type 0 = λ z. holds_frames f 1 z ≡ true in
-    let k : true ≡ false = sym (subst P (same-place x.0 old leaves m.sorted x.1 i e) x.2) ∙ h in
+    let k : true ≡ false = sym (subst (λ (z : Leaf). holds_frames f 1 z ≡ true) (same-place x.0 old leaves m.sorted x.1 i e) x.2) ∙ h in
     absurd (cc))) x.2)
 
 pub pool-removed : (row : Row) (space first : ℕ) (o : Order) (leaves : List Leaf) (old : Leaf) (pool : List Bool) → IsMapping row leaves
     → leaf_named space first o leaves ≡ Some old → IsPoolOf row.frames leaves pool
     → IsPoolOf row.frames (changed (Remove space first o) leaves) (marked pool old.frame (pages_of old.order) true)
 pool-removed row space first o leaves old pool m named tie =
-    let P : List Leaf → Type 0 = λ xs. IsPoolOf row.frames xs (marked pool old.frame (pages_of old.order) true) in
-    subst P (sym (removed-is space first o leaves old named)) (record {
+    subst (λ (xs : List Leaf). IsPoolOf row.frames xs (marked pool old.frame (pages_of old.order) true)) (sym (removed-is space first o leaves old named)) (record {
       size = length-marked pool old.frame (pages_of old.order) true fits ∙ tie.size;
       each = λ f below. go f below (holds_frames f 1 old) refl;
     })

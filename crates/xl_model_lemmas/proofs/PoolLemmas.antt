@@ -1,7 +1,7 @@
 -- The lowest free block of a pool is the lowest block that no leaf holds. For the machine.
 use Rattle.xl_model_lemmas.proofs.Common.{◌*◌, ◌+◌, ◌<◌, ◌∙◌, ◌≡◌, ◌≤◌, any-In, ap, arith, Bool, false, HasNone, holds_frames, In, In-any, IsAnswer, IsFree, IsFreeOf, IsLowest, IsPoolOf, Leaf, length, List, list_any, lowest, nat_le, nat_tests, None, not, Option, Order, pages_of, refl, slice_index_or, Some, subst, sym, true, ℕ}
 use Rattle.xl_model_lemmas.proofs.LowestLemmas.{lowest-is-lowest}
-use Rattle.xl_model_lemmas.proofs.OrderLemmas.{pages-some}
+use Rattle.xl_model_lemmas.proofs.PlaceLemmas.{pages-some}
 
 -- a leaf that holds a frame of a block holds some frame of it
 shared : (at size : ℕ) (x : Leaf) → 0 < size → 0 < pages_of x.order → holds_frames at size x ≡ true → (f : ℕ) × (at ≤ f) × (f < at + size) × (holds_frames f 1 x ≡ true)
@@ -73,18 +73,16 @@ lowest-by : (frames : ℕ) (o : Order) (leaves : List Leaf) (pool : List Bool) (
 lowest-by frames o leaves pool at tie low None is =
     let e = low.aligned in
     let fits : at + pages_of o ≤ frames = let k : at + pages_of o ≤ length pool = low.fits in let s : length pool ≡ frames = tie.size in omega arith in
-    let P : ℕ → Type 0 = λ n. IsFreeOf (pages_of o) n leaves in
     let Q : ℕ → Type 0 = λ n. n + pages_of o ≤ frames in
-    absurd (is e.0 (subst Q e.1 fits) (subst P e.1 (free-of frames at (pages_of o) leaves pool tie (pages-some o) fits low.is_free)))
+    absurd (is e.0 (subst Q e.1 fits) (subst (λ (n : ℕ). IsFreeOf (pages_of o) n leaves) e.1 (free-of frames at (pages_of o) leaves pool tie (pages-some o) fits low.is_free)))
 lowest-by frames o leaves pool at tie low (Some b) is =
     let e = low.aligned in
     let d = is.aligned in
     let fits : at + pages_of o ≤ frames = let k : at + pages_of o ≤ length pool = low.fits in let s : length pool ≡ frames = tie.size in omega arith in
     let P : ℕ → Type 0 = λ n. IsFreeOf (pages_of o) n leaves in
     let Q : ℕ → Type 0 = λ n. n + pages_of o ≤ frames in
-    let R : ℕ → Type 0 = λ n. IsFree pool n (pages_of o) in
     let one : b ≤ e.0 * pages_of o = is.least e.0 (subst Q e.1 fits) (subst P e.1 (free-of frames at (pages_of o) leaves pool tie (pages-some o) fits low.is_free)) in
-    let two : at ≤ d.0 * pages_of o = low.least d.0 (subst R d.1 (free-in frames b (pages_of o) leaves pool tie is.fits is.is_free)) in
+    let two : at ≤ d.0 * pages_of o = low.least d.0 (subst (λ (n : ℕ). IsFree pool n (pages_of o)) d.1 (free-in frames b (pages_of o) leaves pool tie is.fits is.is_free)) in
     let x : at ≡ e.0 * pages_of o = e.1 in
     let y : b ≡ d.0 * pages_of o = d.1 in
     ap Some (omega arith)
@@ -97,8 +95,7 @@ none-by : (frames : ℕ) (o : Order) (leaves : List Leaf) (pool : List Bool) →
 none-by frames o leaves pool tie none None is = refl
 none-by frames o leaves pool tie none (Some b) is =
     let d = is.aligned in
-    let R : ℕ → Type 0 = λ n. IsFree pool n (pages_of o) in
-    absurd (none.none d.0 (subst R d.1 (free-in frames b (pages_of o) leaves pool tie is.fits is.is_free)))
+    absurd (none.none d.0 (subst (λ (n : ℕ). IsFree pool n (pages_of o)) d.1 (free-in frames b (pages_of o) leaves pool tie is.fits is.is_free)))
 
 pub lowest-none : (frames : ℕ) (o : Order) (leaves : List Leaf) (pool : List Bool) → IsPoolOf frames leaves pool → HasNone pool (pages_of o) → lowest frames o leaves ≡ None
 lowest-none frames o leaves pool tie nothing = none-by frames o leaves pool tie nothing (lowest frames o leaves) (lowest-is-lowest frames o leaves)

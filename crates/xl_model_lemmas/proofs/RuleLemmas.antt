@@ -51,8 +51,7 @@ new-leaf row space va o perm leaves (Some at) c ruled is known =
     let block = page-block row.mode o va (first_so _ _ place.all_aligned) in
     let leaf : Leaf = record { space = space; first = page_of row.mode va; order = o; frame = at; perm = perm } in
     let same : Insert leaf ≡ c = cc in
-    let P : Change → Type 0 = λ d. IsSound row leaves d in
-    subst P same (record {
+    subst (λ (d : Change). IsSound row leaves d) same (record {
       valid = record { space_in = place.space_in; pages_in = block.0; pages_aligned = block.1; frames_in = is.fits; frames_aligned = is.aligned };
       apart = no-overlap row leaves space va o (or-first _ _ (or-second _ _ ruled));
       free = is.is_free;
@@ -80,16 +79,13 @@ sound-of row leaves (event.Map space va o perm) c ruled known =
     new-leaf row space va o perm leaves (lowest row.frames o leaves) c ruled (lowest-is-lowest row.frames o leaves) known
 sound-of row leaves (event.Unmap space va o) c ruled known =
     let same : Remove space (page_of row.mode va) o ≡ c = cc in
-    let P : Change → Type 0 = λ d. IsSound row leaves d in
-    subst P same tt
+    subst (λ (d : Change). IsSound row leaves d) same tt
 sound-of row leaves (event.Protect space va o perm) c ruled known =
     let same : Protect space (page_of row.mode va) o perm ≡ c = cc in
-    let P : Change → Type 0 = λ d. IsSound row leaves d in
-    subst P same tt
+    subst (λ (d : Change). IsSound row leaves d) same tt
 sound-of row leaves (event.Move space from to o) c ruled known =
     let same : Relocate space (page_of row.mode from) (page_of row.mode to) o ≡ c = cc in
-    let P : Change → Type 0 = λ d. IsSound row leaves d in
-    subst P same (new-place row leaves space from to o ruled)
+    subst (λ (d : Change). IsSound row leaves d) same (new-place row leaves space from to o ruled)
 sound-of row leaves (event.Space space) c ruled known = absurd (cc)
 sound-of row leaves (event.Fence to) c ruled known = absurd (cc)
 

@@ -59,8 +59,7 @@ put-back x xs sorted i =
       | true ↦ λ t.
           let e : leaf_key z ≡ leaf_key x = grind (arith, nat_tests) in
           let same : z ≡ x = same-place z x xs sorted j i e in
-          let P : Leaf → Type 0 = λ w. In w (with_leaf x (without_leaf x.space x.first xs)) in
-          subst P (sym same) (In-with x (without_leaf x.space x.first xs))
+          subst (λ (w : Leaf). In w (with_leaf x (without_leaf x.space x.first xs))) (sym same) (In-with x (without_leaf x.space x.first xs))
       | false ↦ λ t.
           let other : leaf_key z ≡ leaf_key x → ⊥ = λ e. grind (arith, nat_tests) in
           stays-with z x (without_leaf x.space x.first xs) (In-without z x.space x.first xs j other) other

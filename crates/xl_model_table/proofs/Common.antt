@@ -7,8 +7,7 @@ pub use Rattle.std.specs.List.{insert, list_any}
 pub use Rattle.std.specs.Prelude.{filter, is_some}
 pub use Rattle.std.specs.Vec.{vec_len, with_items}
 pub use Rattle.xl_list_lemmas.proofs.BucketLemmas.{by-In, In-by, length-by, stays-by, tags-by}
-pub use Rattle.xl_list_lemmas.proofs.MemberLemmas.{all-In, all-tail, any-false, filter-In, filter-passes, find-only, In-all, In-any, In-filter, In-map, map-In}
-pub use Rattle.xl_list_lemmas.proofs.SameLemmas.{any-same, both, find-same, none-any}
+pub use Rattle.xl_list_lemmas.proofs.MemberLemmas.{all-In, all-tail, any-false, any-same, both, filter-In, filter-passes, find-only, find-same, In-all, In-any, In-filter, In-map, map-In, none-any}
 pub use Rattle.xl_list_lemmas.specs.Members.{In}
 pub use Rattle.xl_model.specs.Chains.{bucket_of, examined, has_tag, in_front_of_bucket, leaf_tag}
 unfoldable pub use Rattle.xl_model.specs.Chains.{chain_of, only_used_tags, with_tag}

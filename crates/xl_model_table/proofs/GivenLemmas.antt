@@ -60,8 +60,7 @@ mapping-given s f o perm old xs k i named =
       | inr m ↦
           let n : In z xs = mapping-In z xs (without-In z old.space old.first (mapping_of xs) m) in
           let unnamed : is_leaf s f o z ≡ false = false_from_ne_true (is_leaf s f o z) (λ h. without-other z old.space old.first (mapping_of xs) m (named-key s f o z h ∙ sym (named-key s f o old named))) in
-          let P : Leaf → Type 0 = λ w. In w ys in
-          subst P (given-no s f o perm z unnamed) (In-map (given s f o perm) z xs n)
+          subst (λ (w : Leaf). In w ys) (given-no s f o perm z unnamed) (In-map (given s f o perm) z xs n)
     ]))
     (λ z j.
     let found = map-In (given s f o perm) z xs (mapping-In z ys j) in
@@ -69,8 +68,7 @@ mapping-given s f o perm old xs k i named =
     subst P (sym found.2) (elim (is_leaf s f o found.0) as (λ b. is_leaf s f o found.0 ≡ b → In (given s f o perm found.0) (with_leaf new rest)) [
       | true ↦ λ t.
           let same : found.0 ≡ old = named-same s f o old found.0 xs k i named found.1 t in
-          let Q : Leaf → Type 0 = λ w. In (record w { perm = perm }) (with_leaf new rest) in
-          subst P (sym (given-yes s f o perm found.0 t)) (subst Q (sym same) (In-with new rest))
+          subst P (sym (given-yes s f o perm found.0 t)) (subst (λ (w : Leaf). In (record w { perm = perm }) (with_leaf new rest)) (sym same) (In-with new rest))
       | false ↦ λ t.
           let other : leaf_key found.0 ≡ leaf_key old → ⊥ = other-key s f o old found.0 xs k i named found.1 t in
           subst P (sym (given-no s f o perm found.0 t))

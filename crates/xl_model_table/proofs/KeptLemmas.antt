@@ -12,11 +12,9 @@ apart-same : (x y : Leaf) (xs : List Leaf) → IsApart xs → In x xs → In y x
 apart-same x y [] a i j h = absurd i
 apart-same x y (z ∷ zs) (none, rest) (inl e) (inl f) h = e ∙ sym f
 apart-same x y (z ∷ zs) (none, rest) (inl e) (inr j) h =
-    let P : Leaf → Type 0 = λ w. meets_block w.space w.first w.order y ≡ true in
-    absurd (both _ (subst P e h) (any-false (meets_block z.space z.first z.order) y zs none j))
+    absurd (both _ (subst (λ (w : Leaf). meets_block w.space w.first w.order y ≡ true) e h) (any-false (meets_block z.space z.first z.order) y zs none j))
 apart-same x y (z ∷ zs) (none, rest) (inr i) (inl f) h =
-    let P : Leaf → Type 0 = λ w. meets_block w.space w.first w.order x ≡ false in
-    absurd (both _ h (meets-sym y x (subst P (sym f) (any-false (meets_block z.space z.first z.order) x zs none i))))
+    absurd (both _ h (meets-sym y x (subst (λ (w : Leaf). meets_block w.space w.first w.order x ≡ false) (sym f) (any-false (meets_block z.space z.first z.order) x zs none i))))
 apart-same x y (z ∷ zs) (none, rest) (inr i) (inr j) h = apart-same x y zs rest i j h
 
 pub kept-same : (x y : Leaf) (xs : List Leaf) → IsKept xs → In x xs → In y xs → meets_block x.space x.first x.order y ≡ true → x ≡ y

@@ -1,7 +1,6 @@
 mod Common
 mod ScanLemmas
 mod TableLemmas
-mod MoveLemmas
 mod FrontLemmas
 mod GivenLemmas
 mod KeptLemmas

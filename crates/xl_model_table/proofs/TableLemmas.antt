@@ -161,11 +161,9 @@ pub record IsComing (x : Leaf) (xs : List Leaf) : Type 0 where
 pub coming : (b e l : ℕ) (x : Leaf) (xs : List Leaf) (now : TableState) → table_of b e l xs ≡ now → IsKept xs → IsBlock now.shape x.space x.first x.order
     → meets_any x.space x.first x.order now.leaves ≡ false → IsComing x xs
 coming b e l x xs now same k block free =
-    let B : TableState → Type 0 = λ t. IsBlock t.shape x.space x.first x.order in
-    let F : TableState → Type 0 = λ t. meets_any x.space x.first x.order t.leaves ≡ false in
     record {
-      placed = block-placed b e (map (leaf_tag 1) xs) x (subst B (sym same) block);
-      new = is-new x xs k (subst F (sym same) free);
+      placed = block-placed b e (map (leaf_tag 1) xs) x (subst (λ (t : TableState). IsBlock t.shape x.space x.first x.order) (sym same) block);
+      new = is-new x xs k (subst (λ (t : TableState). meets_any x.space x.first x.order t.leaves ≡ false) (sym same) free);
     }
 
 with-work : (c : Change) (now new : TableState) (w : Work) → w ≡ work_of no_moves 0 → IsChange c now done new → IsChange c now (Ok w) new

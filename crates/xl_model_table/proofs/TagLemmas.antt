@@ -49,8 +49,7 @@ unfolding only_used_tags
 all-used xs k =
     filter-all (λ t. list_any (λ leaf. leaf_tag 1 leaf == t) (mapping_of xs)) (map (leaf_tag 1) xs) (λ t i.
     let found = map-In (leaf_tag 1) t xs i in
-    let P : ℕ → Type 0 = λ u. list_any (λ leaf. leaf_tag 1 leaf == u) (mapping_of xs) ≡ true in
-    subst P (sym found.2) (is-used found.0 (mapping_of xs) (In-mapping found.0 xs k found.1)))
+    subst (λ (u : ℕ). list_any (λ leaf. leaf_tag 1 leaf == u) (mapping_of xs) ≡ true) (sym found.2) (is-used found.0 (mapping_of xs) (In-mapping found.0 xs k found.1)))
 
 not-true : (b : Bool) → b ≡ false → not b ≡ true
 not-true b e = rw e refl
@@ -71,8 +70,7 @@ used-without s f o xs k =
           let m : In z (filter p xs) = mapping-In z (filter p xs) j in
           let n : In z xs = filter-In p z xs m in
           let same : z ≡ x = kept-same z x xs k n i (tag-meets z x (all-In IsPlaced z xs k.placed n) (all-In IsPlaced x xs k.placed i) (eqb-true _ _ t)) in
-          let P : Leaf → Type 0 = λ w. p w ≡ true in
-          not-passes (is_leaf s f o x) h (subst P same (filter-passes p z xs m))))
+          not-passes (is_leaf s f o x) h (subst (λ (w : Leaf). p w ≡ true) same (filter-passes p z xs m))))
       | false ↦ λ h. is-used x (mapping_of (filter p xs)) (In-mapping x (filter p xs) (kept-filter p xs k) (In-filter p x xs i (not-true (is_leaf s f o x) h)))
     ] refl)
 

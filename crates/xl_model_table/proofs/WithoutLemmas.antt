@@ -16,8 +16,7 @@ false-not false h = refl
 -- a leaf of another name is of another place
 pub other-key : (s f : ℕ) (o : Order) (old z : Leaf) (xs : List Leaf) → IsKept xs → In old xs → is_leaf s f o old ≡ true → In z xs → is_leaf s f o z ≡ false → leaf_key z ≡ leaf_key old → ⊥
 other-key s f o old z xs k i named j other e =
-    let P : Leaf → Type 0 = λ w. is_leaf s f o w ≡ false in
-    both _ named (subst P (named-one s f o old z xs k i named j e) other)
+    both _ named (subst (λ (w : Leaf). is_leaf s f o w ≡ false) (named-one s f o old z xs k i named j e) other)
 
 -- the leaf of a name taken out
 pub mapping-without : (s f : ℕ) (o : Order) (old : Leaf) (xs : List Leaf) → IsKept xs → In old xs → is_leaf s f o old ≡ true

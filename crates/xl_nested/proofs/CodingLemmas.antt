@@ -154,8 +154,7 @@ pub item-block : (i : Item) (g first pages : ℕ) → covers_guest g (leaf_of i)
 unfolding leaf_of
 item-block i g first pages covers f p =
     let n : i.tag / 3 ≡ g / pages_of (order_at (i.tag % 3)) = number-of (order_at (i.tag % 3)) (i.tag / 3) g (block-covers (order_at (i.tag % 3)) (i.tag / 3) g ∙ covers) in
-    let P : ℕ → Type 0 = λ k. IsBlockOf (record { first = first; pages = k; word = i.word }) (block_leaf (order_at (i.tag % 3)) (i.tag / 3) i.word) in
-    subst P (sym p) (record {
+    subst (λ (k : ℕ). IsBlockOf (record { first = first; pages = k; word = i.word }) (block_leaf (order_at (i.tag % 3)) (i.tag / 3) i.word)) (sym p) (record {
       some = pages-some (order_at (i.tag % 3));
       covers = λ h. sym (block-covers (order_at (i.tag % 3)) (i.tag / 3) h) ∙ block-has (order_at (i.tag % 3)) (i.tag / 3) g h first n f;
       says = λ h has. page-says i h (h - first) _ (sym (block-covers (order_at (i.tag % 3)) (i.tag / 3) h) ∙ block-has (order_at (i.tag % 3)) (i.tag / 3) g h first n f ∙ has)

@@ -4,9 +4,8 @@ pub use Rattle.std.proofs.lemmas.Bool.Decides.{nat_tests}
 pub use Rattle.std.proofs.lemmas.List.{get_or-replicate, length-append, length-map, length-replicate}
 pub use Rattle.std.specs.List.{list_all}
 pub use Rattle.std.specs.Prelude.{IfSome, is_ok, OnErr, OnOk, replicate}
-pub use Rattle.xl_list_lemmas.proofs.MemberLemmas.{any-false, find-In, find-None, find-only, find-passes}
+pub use Rattle.xl_list_lemmas.proofs.MemberLemmas.{any-false, find-In, find-None, find-only, find-passes, same-tests}
 pub use Rattle.xl_list_lemmas.proofs.RecencyLemmas.{find-none, find-some, newest-In, newest-map, purged-In, purged-map, touched-In, touched-map, touched-none}
-pub use Rattle.xl_list_lemmas.proofs.SameLemmas.{same-tests}
 pub use Rattle.xl_list_lemmas.specs.Members.{In}
 pub use Rattle.xl_model.specs.Addresses.{allows, is_aligned, is_canonical, level_of, order_at, pages_of, same_order}
 unfoldable pub use Rattle.xl_model.specs.Addresses.{page_of}
@@ -30,18 +29,17 @@ pub use Rattle.xl_model.specs.declared.leaf.Leaf.{Leaf}
 pub use Rattle.xl_model.specs.declared.perm.Perm.{Perm}
 pub use Rattle.xl_model_lemmas.proofs.ChangeLemmas.{changed-In, stays-changed}
 pub use Rattle.xl_model_lemmas.proofs.MappingLemmas.{kept-inserted, kept-removed, named-In, named-is, none-true}
-pub use Rattle.xl_model_lemmas.proofs.OrderLemmas.{pages-some}
-pub use Rattle.xl_model_lemmas.proofs.PlaceLemmas.{covers-meets, named-order, page-block}
+pub use Rattle.xl_model_lemmas.proofs.PlaceLemmas.{covers-meets, named-order, page-block, pages-some}
 pub use Rattle.xl_nested_model.specs.Nested.{along, loaded_where, NestState, walked_if, with_last}
 unfoldable pub use Rattle.xl_nested_model.specs.Nested.{after_nest_event, nest_accessed, nest_outcome, nest_rule, nest_served}
 pub use Rattle.xl_nested_model.specs.Rules.{guest_map, host_map, is_beyond, map_rule, refused_if, room_rule, stage_after, unmap_rule}
 unfoldable pub use Rattle.xl_nested_model.specs.Rules.{gmap_rule, gmapped, gunmap_rule, gunmapped, vmap_rule, vmapped, vunmap_rule, vunmapped}
-pub use Rattle.xl_nested_model.specs.Stages.{covers_guest, frame_of, Guest, guest_reply, Host, host_page, host_reply, host_space, is_loadable, nodes_in, opening_host, opening_stage, path_from, reply_if_canonical, reply_if_loadable, Stage, translated_by, with_found, with_loads}
+pub use Rattle.xl_nested_model.specs.Stages.{covers_guest, frame_of, Guest, guest_reply, Host, host_page, host_reply, host_space, is_loadable, nodes_in, opening_stage, path_from, reply_if_canonical, reply_if_loadable, Stage, translated_by, with_found, with_loads}
 unfoldable pub use Rattle.xl_nested_model.specs.Stages.{guest_path, host_leaf, nested, stage2, translated}
 pub use Rattle.xl_nested_model.specs.declared.nest.NestEvent.{NestEvent}
 pub use Rattle.xl_nested_model.specs.declared.nest.NestRefusal.{NestRefusal}
 pub use Rattle.xl_nested_model.specs.declared.nest.NestReply.{NestReply}
-pub use Rattle.xl_radix.proofs.NumberLemmas.{number-some}
+pub use Rattle.xl_radix.proofs.SlotLemmas.{number-some}
 pub use Rattle.xl_radix.specs.Table.{Table}
 pub use Rattle.xl_radix.specs.Walk.{end_at, end_of, is_there, place_of, reading, walk_end, WordsReadBack}
 unfoldable pub use Rattle.xl_radix.specs.Walk.{radix_back}

@@ -63,9 +63,6 @@ module _ (f : Fronts) (leaves : List Leaf) (is : IsFronts f leaves) (none : f.fi
       go true e = let pos : 0 < f.second.pages = is.known e in let k : 0 < f.first.pages = is.beside pos in absurd (omega arith)
       go false e = e
 
-  pub unknown-any : (new : List Leaf) → IsFronts f new
-  unknown-any new = unknown f new is.first_small is.second_small none second-unknown unknown-straight
-
 -- the newest of those that pass a test is the first, or the second
 module _ (p : Leaf → Bool) where
   find-first : (x : Leaf) (rest : List Leaf) → p x ≡ true → find p (x ∷ rest) ≡ Some x
@@ -94,20 +91,6 @@ record IsNewest (g : ℕ) (b : Block) (seen new : List Leaf) : Type 0 where
   moved : new ≡ touched (covers_guest g) seen
 
 module _ (g : ℕ) (b c : Block) where
-  by-first : (s : Bool) (leaves : List Leaf) → IsFirst b leaves → IsSecond c leaves → (has_page b g ≡ true → has_page c g ≡ false) → (s ≡ true → 0 < c.pages) → has_page b g ≡ true
-      → IsNewest g b (in_order s leaves) leaves
-  by-first s [] first second apart known has = let k : 0 < b.pages = some-page b g has in absurd (omega arith)
-  by-first false (x ∷ rest) first second apart known has =
-      let is : IsBlockOf b x = first (some-page b g has) in
-      let t : covers_guest g x ≡ true = is.covers g ∙ has in
-      record { leaf = x; block = is; found = find-first (covers_guest g) x rest t; moved = sym (touched-first (covers_guest g) x rest t) }
-  by-first true (x ∷ []) first second apart known has = let k : 0 < c.pages = known refl in absurd (omega arith)
-  by-first true (x ∷ (y ∷ rest)) first second apart known has =
-      let is : IsBlockOf b x = first (some-page b g has) in
-      let other : IsBlockOf c y = second (known refl) in
-      let t : covers_guest g x ≡ true = is.covers g ∙ has in
-      let u : covers_guest g y ≡ false = other.covers g ∙ apart has in
-      record { leaf = x; block = is; found = find-second (covers_guest g) y x rest u t; moved = sym (touched-second (covers_guest g) y x rest u t) }
 
   by-second : (s : Bool) (leaves : List Leaf) → IsFirst b leaves → IsSecond c leaves → (0 < c.pages → 0 < b.pages) → has_page b g ≡ false → has_page c g ≡ true
       → IsNewest g c (in_order s leaves) (exchanged leaves)
@@ -131,38 +114,8 @@ word-found b g w x o e is has word =
     let said : IsPageWord (host_page g) w x = subst (λ (n : ℕ). IsPageWord (host_page g) n x) (sym word) (is.says g has) in
     subst (λ (y : Option Leaf). IsFound (host_page g) (Some w) y) (sym e) said
 
-reordered : (f : Fronts) (s : Bool) (leaves : List Leaf) → IsFronts f leaves → (s ≡ true → 0 < f.second.pages) → IsFronts (record f { swapped = s }) leaves
-reordered f s leaves is known = record {
-  first_small = is.first_small;
-  second_small = is.second_small;
-  first_is = is.first_is;
-  second_is = is.second_is;
-  apart = is.apart;
-  beside = is.beside;
-  known = known;
-}
-
 -- a hit in the first leaf, and in the second
 module _ (g w : ℕ) (f : Fronts) (leaves : List Leaf) (is : IsFronts f leaves) (small : w < 2 ^ 49) where
-  pub first-touched : has_page f.first g ≡ true → w ≡ word_at f.first g → IsTouched g (Some w) f (record f { swapped = false }) leaves leaves
-  first-touched has word =
-      let n : IsNewest g f.first (in_order f.swapped leaves) leaves = by-first g f.first f.second f.swapped leaves is.first_is is.second_is (is.apart g) is.known has in
-      record {
-        found = word-found f.first g w n.leaf _ n.found n.block has word;
-        moved = n.moved;
-        fronts = reordered f false leaves is (λ e. absurd (cc));
-        small = small;
-      }
-
-  pub second-touched : has_page f.first g ≡ false → has_page f.second g ≡ true → w ≡ word_at f.second g → IsTouched g (Some w) f (record f { swapped = true }) leaves leaves
-  second-touched following has word =
-      let n : IsNewest g f.second (in_order f.swapped leaves) (exchanged leaves) = by-second g f.first f.second f.swapped leaves is.first_is is.second_is is.beside following has in
-      record {
-        found = word-found f.second g w n.leaf _ n.found n.block has word;
-        moved = n.moved;
-        fronts = reordered f true leaves is (λ e. some-page f.second g has);
-        small = small;
-      }
 
 -- the second leaf is moved to the front
 exchanged-fronts : (f : Fronts) (leaves : List Leaf) → IsFronts f leaves → 0 < f.second.pages → IsFronts (record { first = f.second; second = f.first; swapped = false }) (exchanged leaves)

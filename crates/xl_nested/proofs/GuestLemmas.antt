@@ -1,9 +1,66 @@
 -- What the guest keeps, and what its leaves are.
-use Rattle.xl_nested.proofs.Common.{◌++◌, ◌+◌, ◌-◌, ◌<◌, ◌^◌, ◌∙◌, ◌≡◌, ◌≤◌, arith, Change, changed-In, covers, Entry, find-In, find-passes, guest_map, In, inl, inr, IsAt, IsBlock, IsEntry, IsFor, IsGuest, IsLeafFor, IsPage, IsPlace, IsReached, IsStage, Leaf, leaf_at_page, LeavesReach, length, length-append, length-replicate, List, nat_tests, Node, nodes_in, None, number-some, opening_nodes, opening_stage, Option, Order, pages-some, pages_of, Perm, refl, Remove, replicate, roots, small_leaf, Some, Stage, stage_after, subst, suc, sym, true, up, with_loads, ℕ}
+use Rattle.xl_nested.proofs.Common.{◌++◌, ◌+◌, ◌-◌, ◌<◌, ◌^◌, ◌∙◌, ◌∷◌, ◌≡◌, ◌≤◌, [], ap, arith, brought, Chained, Change, changed, changed-In, covers, Cuckoo, Entry, find-In, find-passes, guest_map, In, inl, inr, IsAt, IsBlock, IsEntry, IsFor, IsGuest, IsPage, IsPlace, IsReached, IsStage, kept_node, Leaf, leaf_at_page, LeavesReach, length, length-append, length-map, length-replicate, level_of, List, narrowed, nat_tests, Node, nodes_in, None, number-some, number_of, only_needed, opening_nodes, opening_stage, Option, Order, page_limit, pages-some, pages_of, Perm, put_first, Radix, refl, Remove, replicate, roots, Runs, Shape, shape_after, small_leaf, Some, spaces_of, Stage, stage_after, subst, suc, sym, true, unless_there, up, widened, with_leaf_nodes, with_node, with_path, zero, ℕ}
 use Rattle.xl_radix.proofs.OpeningLemmas.{length-roots}
 use Rattle.xl_nested.proofs.ApartLemmas.{left-In}
-use Rattle.xl_nested.proofs.ShapeLemmas.{shape-like}
 use Rattle.xl_nested.specs.declared.stage.Entry.TheVariants as entry
+
+-- What a change of a table leaves of its limits and of how many node numbers it has.
+put-length : (x : Node) (nodes : List (Option Node)) → length (put_first x nodes) ≡ length nodes
+put-length x [] = refl
+put-length x (None ∷ nodes) = refl
+put-length x (Some y ∷ nodes) = ap suc (put-length x nodes)
+
+there-length : (o : Option ℕ) (nodes new : List (Option Node)) → length new ≡ length nodes → length (unless_there o nodes new) ≡ length nodes
+there-length None nodes new e = e
+there-length (Some n) nodes new e = refl
+
+node-length : (space l block : ℕ) (nodes : List (Option Node)) → length (with_node space l block nodes) ≡ length nodes
+unfolding with_node
+node-length space l block nodes =
+    there-length (number_of space l block nodes) nodes _ (put-length (record { space = space; level = l - 1; prefix = block }) nodes)
+
+path-length : (space page l d : ℕ) (nodes : List (Option Node)) → length (with_path space page l d nodes) ≡ length nodes
+path-length space page l zero nodes = refl
+path-length space page l (suc d) nodes =
+    path-length space page l d (with_node space (l + suc d) (up (l + suc d) page) nodes) ∙ node-length space (l + suc d) (up (l + suc d) page) nodes
+
+leaf-length : (levels : ℕ) (leaf : Leaf) (nodes : List (Option Node)) → length (with_leaf_nodes levels leaf nodes) ≡ length nodes
+unfolding with_leaf_nodes
+leaf-length levels leaf nodes = path-length leaf.space leaf.first (level_of leaf.order) (levels - 1 - level_of leaf.order) nodes
+
+needed-length : (levels : ℕ) (leaves : List Leaf) (nodes : List (Option Node)) → length (only_needed levels leaves nodes) ≡ length nodes
+unfolding only_needed
+needed-length levels leaves nodes = length-map nodes (kept_node levels leaves)
+
+-- a shape with the same limits, and as many node numbers
+pub record IsLike (old new : Shape) : Type 0 where
+  pub spaces_same : spaces_of new ≡ spaces_of old
+  pub pages_same : page_limit new ≡ page_limit old
+  pub nodes_same : length (nodes_in new) ≡ length (nodes_in old)
+
+widened-like : (o : Option Leaf) (shape : Shape) → IsLike shape (widened o shape)
+widened-like None shape = record { spaces_same = refl; pages_same = refl; nodes_same = refl }
+widened-like (Some leaf) (Radix levels spaces nodes) = record { spaces_same = refl; pages_same = refl; nodes_same = leaf-length levels leaf nodes }
+widened-like (Some leaf) (Chained group buckets entries tags) = record { spaces_same = refl; pages_same = refl; nodes_same = refl }
+widened-like (Some leaf) (Cuckoo rules ways) = record { spaces_same = refl; pages_same = refl; nodes_same = refl }
+widened-like (Some leaf) (Runs ranges) = record { spaces_same = refl; pages_same = refl; nodes_same = refl }
+
+narrowed-like : (c : Change) (leaves : List Leaf) (shape : Shape) → IsLike shape (narrowed c leaves shape)
+narrowed-like c leaves (Radix levels spaces nodes) = record { spaces_same = refl; pages_same = refl; nodes_same = needed-length levels (changed c leaves) nodes }
+narrowed-like c leaves (Chained group buckets entries tags) = record { spaces_same = refl; pages_same = refl; nodes_same = refl }
+narrowed-like c leaves (Cuckoo rules ways) = record { spaces_same = refl; pages_same = refl; nodes_same = refl }
+narrowed-like c leaves (Runs ranges) = record { spaces_same = refl; pages_same = refl; nodes_same = refl }
+
+pub shape-like : (c : Change) (leaves : List Leaf) (shape : Shape) → IsLike shape (shape_after c leaves shape)
+unfolding shape_after
+shape-like c leaves shape =
+    let a = widened-like (brought c leaves) shape in
+    let b = narrowed-like c leaves (widened (brought c leaves) shape) in
+    record {
+      spaces_same = b.spaces_same ∙ a.spaces_same;
+      pages_same = b.pages_same ∙ a.pages_same;
+      nodes_same = b.nodes_same ∙ a.nodes_same;
+    }
 
 pub opening-length : (spaces n : ℕ) → spaces ≤ n → length (opening_nodes 3 spaces n) ≡ n
 unfolding opening_nodes
@@ -44,12 +101,6 @@ page-of spaces space page stage is few low =
 
 pub first-low : (first : ℕ) (o : Order) (limit : ℕ) → IsPlace first o limit → first < limit
 first-low first o limit place = let p = place.within in let q : 0 < pages_of o = pages-some o in omega arith
-
-pub guest-leaf : (page : ℕ) (o : Order) (g : ℕ) (perm : Perm) (stage : Stage) → IsStage 1 stage → IsPlace page o (2 ^ 27) → IsPlace g o (2 ^ 29)
-    → IsLeafFor stage.shape (record { space = 0; first = page; order = o; frame = g; perm = perm })
-guest-leaf page o g perm stage is place frames =
-    let f = frames.within in
-    record { block = block-of 1 0 page o stage is (omega arith) place; frames_in = omega arith; frames_aligned = frames.aligned }
 
 pub guest-mapped : (base page : ℕ) (o : Order) (g : ℕ) (perm : Perm) (stage : Stage) → IsGuest base stage → IsPlace g o (2 ^ 29)
     → IsGuest base (stage_after (Some (guest_map page o g perm)) stage)
@@ -104,14 +155,6 @@ node-low base level node page stage is at =
     let h = (number-some 0 (suc level) (up (suc level) page) node (nodes_in stage.shape) at.at).0 in
     let n = is.low_nodes in
     omega arith
-
--- a load changes the loads alone
-pub loaded-kept : (base n : ℕ) (stage : Stage) → IsGuest base stage → IsGuest base (with_loads n stage)
-loaded-kept base n stage is = record {
-  stage_is = record { spaces_are = is.stage_is.spaces_are; pages_are = is.stage_is.pages_are };
-  low_nodes = is.low_nodes;
-  low_frames = is.low_frames;
-}
 
 pub entry-reaches : (base level page : ℕ) (stage : Stage) → IsGuest base stage → (e : Entry) → IsEntry level page e stage → LeavesReach page e
 entry-reaches base level page stage is (entry.Node next) says = tt

@@ -1,5 +1,5 @@
 -- What the host keeps, and what its G cache answers.
-use Rattle.xl_nested.proofs.Common.{◌*◌, ◌+◌, ◌/◌, ◌<◌, ◌^◌, ◌≡◌, ◌≤◌, [], arith, Bool, Cached, changed, covers_guest, empty_cache, false, find, find-In, find-passes, get_or-replicate, gmapped, gunmapped, host_leaf, host_map, host_of, host_page, host_row, host_space, In, inl, inr, Insert, is_leaf, IsFor, IsFound, IsHost, IsKeepable, IsLeafFor, IsPlace, kept-inserted, kept-removed, Leaf, leaf_at_page, leaf_named, length, length-replicate, List, map_rule, meets_any, named-In, named-is, named-order, NestRefusal, newest-In, None, opening_host, opening_stage, Option, Order, pages-some, pages_of, Perm, purged, purged-In, refl, Remove, replicate, room_rule, small_leaf, Some, Stage, stage_after, stays-changed, subst, sym, touched, touched-In, true, unmap_rule, with_loads, with_newest, without_items, ℕ}
+use Rattle.xl_nested.proofs.Common.{◌*◌, ◌+◌, ◌/◌, ◌<◌, ◌^◌, ◌≡◌, ◌≤◌, [], arith, Bool, Cached, changed, covers_guest, empty_cache, false, find, find-In, find-passes, get_or-replicate, gmapped, gunmapped, host_leaf, host_map, host_of, host_page, host_row, host_space, In, inl, inr, Insert, is_leaf, IsFor, IsFound, IsHost, IsKeepable, IsLeafFor, IsPlace, kept-inserted, kept-removed, Leaf, leaf_at_page, leaf_named, length, length-replicate, List, map_rule, meets_any, named-In, named-is, named-order, NestRefusal, newest-In, None, opening_stage, Option, Order, pages-some, pages_of, Perm, purged, purged-In, refl, Remove, replicate, room_rule, small_leaf, Some, Stage, stage_after, stays-changed, subst, sym, touched, touched-In, true, unmap_rule, with_loads, with_newest, without_items, ℕ}
 use Rattle.xl_frames.specs.Pool.{HasNone, IsLowest, marked}
 use Rattle.xl_model_lemmas.proofs.CoverLemmas.{covered-is}
 use Rattle.xl_model_lemmas.proofs.PoolChangeLemmas.{pool-given, pool-removed, pool-taken}
@@ -29,10 +29,6 @@ opening-host frames nodes width few =
       pool_is = subst (λ (n : ℕ). IsPoolOf n [] (replicate frames true)) (sym e) (all-free frames);
       fresh = λ x i. absurd i;
     }
-
-pub opening-is : (frames nodes width : ℕ) (stage : Stage) (pool : List Bool) (cache : Cached Leaf) → stage ≡ opening_stage 4 nodes → pool ≡ replicate frames true → cache ≡ empty_cache width
-    → host_of stage pool cache 0 ≡ opening_host frames nodes width
-opening-is frames nodes width stage pool cache e f k = rw (e, f, k, length-replicate frames true) refl
 
 -- the leaves of a host
 module _ {stage : Stage} {pool : List Bool} {cache : Cached Leaf} (is : IsHost stage pool cache) where
@@ -190,8 +186,7 @@ module _ {stage : Stage} {pool : List Bool} {cache : Cached Leaf} (is : IsHost s
 
   pub old-frames : (space first : ℕ) (o : Order) (old : Leaf) → leaf_named space first o stage.leaves ≡ Some old → old.frame + pages_of o ≤ length pool
   old-frames space first o old e =
-      let P : Order → Type 0 = λ q. old.frame + pages_of q ≤ length pool in
-      subst P (old-order space first o old e) (is.mapping.valid old (named-In space first o old stage.leaves e)).frames_in
+      subst (λ (q : Order). old.frame + pages_of q ≤ length pool) (old-order space first o old e) (is.mapping.valid old (named-In space first o old stage.leaves e)).frames_in
 
   old-given : (space first : ℕ) (o : Order) (old : Leaf) → leaf_named space first o stage.leaves ≡ Some old
       → IsPoolOf (length pool) (changed (Remove space first o) stage.leaves) (marked pool old.frame (pages_of o) true)

@@ -106,16 +106,14 @@ accessed-leaves va kind s = walked-leaves (is_canonical mode.Sv39 va) va kind s
 
 pub reply-laws : (va : ℕ) (kind : Kind) (result : NestReply) (old new : NestState) → result ≡ nested old.guest old.host.stage.leaves va kind → new ≡ nest_accessed va kind old → ReplyLaws va kind result old new
 reply-laws va kind result old new is after =
-    let P : List Leaf → Type 0 = λ xs. IsPlaced result xs in
     let Q : NestReply → Type 0 = λ r. IsPlaced r old.host.stage.leaves in
     let leaves : new.host.stage.leaves ≡ old.host.stage.leaves = ap (λ (s : NestState). s.host.stage.leaves) after ∙ accessed-leaves va kind old in
     record {
       composes = λ loadable. is ∙ composes-is old.guest old.host.stage.leaves va kind loadable;
       same = λ other same. same-outcome va kind old other result is same;
-      placed = subst P (sym leaves) (subst Q (sym is) (nested-placed old.guest old.host.stage.leaves va kind));
+      placed = subst (λ (xs : List Leaf). IsPlaced result xs) (sym leaves) (subst Q (sym is) (nested-placed old.guest old.host.stage.leaves va kind));
     }
 
 pub event-laws : (e : NestEvent) (va : ℕ) (kind : Kind) (result : NestReply) (old new : NestState) → e ≡ event.Access va kind → ReplyLaws va kind result old new → EventLaws e (outcome.Replied result) old new
 event-laws e va kind result old new is laws =
-    let P : NestEvent → Type 0 = λ x. EventLaws x (outcome.Replied result) old new in
-    subst P (sym is) laws
+    subst (λ (x : NestEvent). EventLaws x (outcome.Replied result) old new) (sym is) laws

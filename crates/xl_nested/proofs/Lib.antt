@@ -1,7 +1,5 @@
 mod Common
 mod ApartLemmas
-mod EntryLemmas
-mod ShapeLemmas
 mod StageLemmas
 mod CodingLemmas
 mod CacheLemmas

@@ -34,5 +34,4 @@ pub root-is : (page : ℕ) (t : Table) → WordsReadBack 3 t.spaces t.leaves t.n
 root-is page t back fits =
     let h = fits.page_in in
     let e : up 3 page ≡ 0 = omega arith in
-    let P : ℕ → Type 0 = λ n. number_of 0 3 n t.nodes ≡ Some 0 in
-    subst P (sym e) (back.roots 0 fits.space_in)
+    subst (λ (n : ℕ). number_of 0 3 n t.nodes ≡ Some 0) (sym e) (back.roots 0 fits.space_in)

@@ -72,18 +72,16 @@ module _ (level node page : ℕ) (kind : Kind) (s : NestState) (at : IsAt level 
         let n : level - last_level page s.guest.stage ≡ suc (level - 1) - last_level page s.guest.stage = omega arith in
         let P : List Leaf → ℕ → Type 0 = λ leaves k. reply_if_loadable (list_all (is_loadable leaves) (path_from s.guest.base (level - 1) page k (nodes_in s.guest.stage.shape))) (guest_reply (guest_frame page kind s.guest) leaves kind) ≡ reply_from level page kind s in
         let Q : ℕ → Type 0 = λ k. P s.host.stage.leaves k in
-        let R : List Leaf → Type 0 = λ leaves. P leaves (suc (level - 1) - last_level page s.guest.stage) in
-        subst R (sym (translated-leaves (s.guest.base + node) s.host)) (subst Q n (sym on-reply))
+        subst (λ (leaves : List Leaf). P leaves (suc (level - 1) - last_level page s.guest.stage)) (sym (translated-leaves (s.guest.base + node) s.host)) (subst Q n (sym on-reply))
 
     pub next-at : (next : ℕ) → IsEntry level page (entry.Node next) s.guest.stage → IsAt (level - 1) next page (record s.guest { stage = with_loads 1 s.guest.stage })
     next-at next is =
         let h = is.0 in let k = is.1 in let l = at.level_in in
         let n : level ≡ suc (level - 1) = omega arith in
-        let P : ℕ → Type 0 = λ l. number_of 0 l (up l page) (nodes_in s.guest.stage.shape) ≡ Some next in
         record {
           level_in = omega arith;
           page_in = at.page_in;
-          at = subst P n is.2;
+          at = subst (λ (l : ℕ). number_of 0 l (up l page) (nodes_in s.guest.stage.shape) ≡ Some next) n is.2;
           last = omega arith;
         }
 
@@ -108,8 +106,7 @@ module _ (level node page : ℕ) (kind : Kind) (s : NestState) (at : IsAt level 
     pub leaf-after : (leaf : Leaf) → IsEntry level page (entry.Leaf leaf) s.guest.stage
         → with_last (frame_of (reply_by (Some leaf) page kind)) (stepped (s.guest.base + node) s) ≡ walked_from level page kind s
     leaf-after leaf (last, found) =
-        let P : Option Leaf → Type 0 = λ o. with_last (frame_of (reply_by o page kind)) (stepped (s.guest.base + node) s) ≡ walked_from level page kind s in
-        subst P found (end-after last)
+        subst (λ (o : Option Leaf). with_last (frame_of (reply_by o page kind)) (stepped (s.guest.base + node) s) ≡ walked_from level page kind s) found (end-after last)
 
     pub small-reply : (word : ℕ) (to : Option ℕ) → to ≡ frame_said kind word → IsEntry level page (entry.Small word) s.guest.stage
         → guest_reply to (translated (s.guest.base + node) s.host).stage.leaves kind ≡ reply_from level page kind s
@@ -119,18 +116,15 @@ module _ (level node page : ℕ) (kind : Kind) (s : NestState) (at : IsAt level 
 
     pub small-after : (word : ℕ) (to : Option ℕ) → to ≡ frame_said kind word → IsEntry level page (entry.Small word) s.guest.stage → with_last to (stepped (s.guest.base + node) s) ≡ walked_from level page kind s
     small-after word to e is =
-        let P : Option ℕ → Type 0 = λ o. with_last o (stepped (s.guest.base + node) s) ≡ walked_from level page kind s in
-        subst P (sym (e ∙ small-frame page word kind)) (leaf-after (small_leaf 0 page word) is)
+        subst (λ (o : Option ℕ). with_last o (stepped (s.guest.base + node) s) ≡ walked_from level page kind s) (sym (e ∙ small-frame page word kind)) (leaf-after (small_leaf 0 page word) is)
 
     pub nothing-reply : IsEntry level page entry.Nothing s.guest.stage → nest.PageFault ≡ reply_from level page kind s
     nothing-reply (last, found) =
-        let P : Option Leaf → Type 0 = λ o. guest_reply (frame_of (reply_by o page kind)) s.host.stage.leaves kind ≡ reply_from level page kind s in
-        subst P found (end-reply last)
+        subst (λ (o : Option Leaf). guest_reply (frame_of (reply_by o page kind)) s.host.stage.leaves kind ≡ reply_from level page kind s) found (end-reply last)
 
     pub nothing-after : IsEntry level page entry.Nothing s.guest.stage → stepped (s.guest.base + node) s ≡ walked_from level page kind s
     nothing-after (last, found) =
-        let P : Option Leaf → Type 0 = λ o. with_last (frame_of (reply_by o page kind)) (stepped (s.guest.base + node) s) ≡ walked_from level page kind s in
-        subst P found (end-after last)
+        subst (λ (o : Option Leaf). with_last (frame_of (reply_by o page kind)) (stepped (s.guest.base + node) s) ≡ walked_from level page kind s) found (end-after last)
 
 -- the page's nodes end at level 2 or below
 pub last-low : (page : ℕ) (stage : Stage) → last_level page stage ≤ 2

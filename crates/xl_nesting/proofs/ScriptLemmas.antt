@@ -2,13 +2,7 @@
 use Rattle.xl_nesting.proofs.Common.{◌∷◌, ◌≡◌, [], All, All-cons, All-head, All-nil, All-tail, commands_of, events_of, IsPlaced, IsReady, List, map, refl, step_of, ℕ}
 use Rattle.xl_nested_model.specs.declared.nest.NestEvent.{NestEvent}
 use Rattle.xl_nested_script.specs.declared.command.NestCommand.{NestCommand}
-use Rattle.xl_course.specs.declared.form.Step.TheVariants as steps
 use Rattle.xl_nested_script.specs.declared.command.NestCommand.TheVariants as command
-
-pub own-step : (c : NestCommand) → ((n : ℕ) → c ≡ command.Run n → ⊥) → (c ≡ command.RunRest → ⊥) → step_of c ≡ steps.Own c
-own-step (command.Events first n) r s = refl
-own-step (command.Run n) r s = absurd (r n refl)
-own-step command.RunRest r s = absurd (s refl)
 
 -- a command that runs records has no events
 pub no-events : (c : NestCommand) → ((first : NestEvent) (n : ℕ) → c ≡ command.Events first n → ⊥) → events_of c ≡ []

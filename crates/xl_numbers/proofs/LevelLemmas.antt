@@ -1,10 +1,7 @@
 -- Words that say which words below them are 0.
-use Rattle.xl_numbers.proofs.Common.{◌%◌, ◌*◌, ◌+◌, ◌-◌, ◌/◌, ◌<◌, ◌==◌, ◌^◌, ◌∙◌, ◌≡◌, ap, AreOnes, AreWords, arith, bit_at, bit_at-lt, bit_at-trailing_ones, bit_at-zero, bit_at_ones, bit_of, Bool, cases_eq, cases_lt, false, inl, inr, IsAbove, IsFirstBit, IsFirstWord, IsPut, IsStack, IsWord, length, List, nat_tests, refl, slice_index, subst, sym, trailing_ones, true, w64, ℕ}
+use Rattle.xl_numbers.proofs.Common.{◌%◌, ◌*◌, ◌+◌, ◌-◌, ◌/◌, ◌<◌, ◌==◌, ◌^◌, ◌∙◌, ◌≡◌, ap, AreOnes, AreWords, arith, bit_at, bit_at-trailing_ones, bit_at-zero, bit_at_ones, bit_of, Bool, cases_eq, cases_lt, false, inl, inr, IsAbove, IsFirstBit, IsFirstWord, IsPut, IsStack, IsWord, length, List, nat_tests, refl, slice_index, subst, sym, trailing_ones, true, w64, ℕ}
 use Rattle.std.proofs.Math.Nat.{mul-add}
-use Rattle.xl_numbers.proofs.BitLemmas.{bit-none, bit-some, word-within}
-
-pub bit-low : (words : List ℕ) (k : ℕ) → bit_of words k < 2
-bit-low words k = bit_at-lt (slice_index words (k / 64)) (k % 64)
+use Rattle.xl_numbers.proofs.BitLemmas.{bit-some, word-within}
 
 -- the first bit above is that of the first word below that isn't 0
 pub first-below : (below above : List ℕ) (j : ℕ) → IsAbove below above → IsFirstBit above j → IsFirstWord below j
@@ -13,10 +10,6 @@ first-below below above j a first = record {
   some = a.some j first.set;
   before = λ i less. a.none i (first.before i less);
 }
-
--- no bit above, no bit below
-pub none-below : (below above : List ℕ) → IsAbove below above → ((j : ℕ) → bit_of above j ≡ 0) → (k : ℕ) → bit_of below k ≡ 0
-none-below below above a none k = bit-none below k (a.none (k / 64) (none (k / 64)))
 
 -- a bit that is set, and the bit above its word too
 pub above-raised : (below above below' above' : List ℕ) (k j : ℕ) → j ≡ k / 64 → IsAbove below above → IsPut below below' k 1 → IsPut above above' j 1 → IsAbove below' above'
@@ -43,20 +36,6 @@ above-emptied below above below' above' k j is a low empty high = record {
   none = λ i clear. elim (cases_eq i j) [
     | inl same ↦ ap (slice_index below') (same ∙ is) ∙ empty
     | inr other ↦ low.words i (λ q. other (q ∙ sym is)) ∙ a.none i (sym (high.others i other) ∙ clear)
-  ];
-}
-
--- a bit that is cleared, while others of its word are set
-pub above-kept : (below above below' : List ℕ) (k : ℕ) → IsAbove below above → bit_of below k ≡ 1 → IsPut below below' k 0 → 0 < slice_index below' (k / 64) → IsAbove below' above
-above-kept below above below' k a there low some = record {
-  room = (let m = low.len in let r = a.room in omega arith);
-  some = λ i set. elim (cases_eq i (k / 64)) [
-    | inl same ↦ rw same some
-    | inr other ↦ (let h = a.some i set in let e : slice_index below' i ≡ slice_index below i = low.words i other in omega arith)
-  ];
-  none = λ i clear. elim (cases_eq i (k / 64)) [
-    | inl same ↦ (let h = bit-some below k there in let z : slice_index below (k / 64) ≡ 0 = ap (slice_index below) (sym same) ∙ a.none i clear in absurd (omega arith))
-    | inr other ↦ low.words i other ∙ a.none i clear
   ];
 }
 
@@ -88,16 +67,6 @@ above-zero below above below' above' j a len words empty high = record {
   ];
 }
 
--- the bit above a bit that is set is set
-pub above-set : (below above : List ℕ) (k : ℕ) → IsAbove below above → bit_of below k ≡ 1 → bit_of above (k / 64) ≡ 1
-above-set below above k a there =
-    let some = bit-some below k there in
-    let low = bit-low above (k / 64) in
-    elim (cases_eq (bit_of above (k / 64)) 0) [
-      | inl none ↦ (let z = a.none (k / 64) none in absurd (omega arith))
-      | inr set ↦ omega arith
-    ]
-
 -- three levels with a number put in
 pub stack-raised : (low middle top low' middle' top' : List ℕ) (n : ℕ) → IsStack low middle top → IsPut low low' n 1 → IsPut middle middle' (n / 64) 1 → IsPut top top' (n / 4096) 1 → IsStack low' middle' top'
 stack-raised low middle top low' middle' top' n s a b c =
@@ -111,22 +80,8 @@ stack-raised low middle top low' middle' top' n s a b c =
 
 -- three levels with a number taken out
 module _ (low middle top low' : List ℕ) (n : ℕ) (s : IsStack low middle top) (there : bit_of low n ≡ 1) (a : IsPut low low' n 0) where
-  pub stack-kept : 0 < slice_index low' (n / 64) → IsStack low' middle top
-  stack-kept some = record {
-    few = (let l = s.few in let m = a.len in omega arith);
-    low_is = above-kept low middle low' n s.low_is there a some;
-    middle_is = s.middle_is;
-    last = s.last;
-  }
 
   module _ (empty : slice_index low' (n / 64) ≡ 0) (middle' : List ℕ) (b : IsPut middle middle' (n / 64) 0) where
-    pub stack-middle : 0 < slice_index middle' (n / 64 / 64) → IsStack low' middle' top
-    stack-middle some = record {
-      few = (let l = s.few in let m = a.len in omega arith);
-      low_is = above-emptied low middle low' middle' n (n / 64) refl s.low_is a empty b;
-      middle_is = above-kept middle top middle' (n / 64) s.middle_is (above-set low middle n s.low_is there) b some;
-      last = s.last;
-    }
 
     pub stack-top : slice_index middle' (n / 64 / 64) ≡ 0 → (top' : List ℕ) → IsPut top top' (n / 4096) 0 → IsStack low' middle' top'
     stack-top none top' c =

@@ -7,4 +7,4 @@ pub use Rattle.std.specs.Prelude.{is_ok, None, Ok, Option, Some}
 pub use Rattle.xl_outside.specs.Folders.{FateCounts, file_of, FileMissing, Files, Fine, FolderAfter, FolderMeaning, ReadFailed, ReadFate, ReadsFile}
 pub use Rattle.xl_outside.specs.Fronts.{more_none, more_then, with_more-twice, with_none}
 pub use Rattle.xl_outside.specs.Outside.{Counted}
-pub use Rattle.xl_outside.specs.Sinks.{FlushAfter, FlushedWhere, Proceeds, IsFlushed, IsMore, Outside, SentAfter, SinkAfter, SinkMeaning, with_more, WriteCounts, Wrote, WroteFront}
+pub use Rattle.xl_outside.specs.Sinks.{FlushAfter, FlushedWhere, IsFlushed, IsMore, Outside, Proceeds, SentAfter, SinkAfter, SinkMeaning, with_more, WriteCounts, Wrote, WroteFront}

@@ -1,5 +1,5 @@
 -- What was read so far of a file that is known.
-use Rattle.xl_outside.proofs.Common.{◌++◌, ◌+◌, ◌∙◌, ◌≡◌, ◌≤◌, [], ap, arith, drop, file_of, Files, IfSome, length, length-append, length-take, List, None, Ok, Option, Some, subst, sym, take, take-add, take-take, ReadsFile, ℕ}
+use Rattle.xl_outside.proofs.Common.{◌++◌, ◌+◌, ◌∙◌, ◌≡◌, ◌≤◌, [], ap, arith, drop, file_of, Files, IfSome, length, length-append, length-take, List, None, Ok, Option, ReadsFile, Some, subst, sym, take, take-add, take-take, ℕ}
 
 -- nothing of a file that isn't there, and the first bytes of one that is
 abbrev pub IsFrontOf : Option (List ℕ) → List ℕ → Type 0
@@ -24,7 +24,5 @@ pub more_read : (fs gs : Option Files) (name xs : List ℕ) (at n w : ℕ) (old 
     → w ≤ n → n ≤ length new → after ≡ xs ++ take w new → IfSome fs (λ f. IsFrontOf (file_of f name) after)
 more_read None gs name xs at n w old new after same front e tells h k a = tt
 more_read (Some f) gs name xs at n w old new after same front e tells h k a =
-    let T : Option Files → Type 0 = λ o. IfSome o (λ f. ReadsFile (file_of f name) at (Ok n) old new) in
-    let U : ℕ → Type 0 = λ m. ReadsFile (file_of f name) m (Ok n) old new in
-    let known = subst U e (subst T same tells) in
+    let known = subst (λ (m : ℕ). ReadsFile (file_of f name) m (Ok n) old new) e (subst (λ (o : Option Files). IfSome o (λ f. ReadsFile (file_of f name) at (Ok n) old new)) same tells) in
     rw a (front_more (file_of f name) xs n w old new front known h k)

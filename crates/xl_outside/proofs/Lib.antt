@@ -3,4 +3,3 @@ mod BufferLemmas
 pub mod FolderLemmas
 mod FrontLemmas
 pub mod SinkLemmas
-mod StreamLemmas

@@ -1,5 +1,5 @@
 -- Texts that are written to a sink, in parts and one after another.
-use Rattle.xl_outside.proofs.Common.{◌++◌, ◌+◌, ◌-◌, ◌∙◌, ◌≡◌, ◌≤◌, [], ap, append_assoc, append_cancel_left, arith, Bool, Counted, drop, false, FlushAfter, Proceeds, inl, inr, IsFlushed, IsMore, length, length-append, length-drop, List, more_none, more_then, None, Option, Outside, refl, SentAfter, SinkAfter, SinkMeaning, Some, subst, sym, take, take-add, take-append-add, take-append-drop, take-append-le, take-append_seam, take_all, take_rest, true, with_more, with_more-twice, with_none, WriteCounts, Wrote, WroteFront, ℕ}
+use Rattle.xl_outside.proofs.Common.{◌++◌, ◌+◌, ◌-◌, ◌∙◌, ◌≡◌, ◌≤◌, [], ap, append_assoc, append_cancel_left, arith, Bool, Counted, drop, false, FlushAfter, inl, inr, IsFlushed, IsMore, length, length-append, length-drop, List, more_none, more_then, None, Option, Outside, Proceeds, refl, SentAfter, SinkAfter, SinkMeaning, Some, subst, sym, take, take-add, take-append-add, take-append-drop, take-append-le, take-append_seam, take_all, take_rest, true, with_more, with_more-twice, with_none, WriteCounts, Wrote, WroteFront, ℕ}
 
 -- the first `a`, and `n` of the rest as a slice of it is written
 take-on : (bs : List ℕ) (a n : ℕ) → take a bs ++ take n (take (length bs - a) (drop a bs)) ≡ take (a + n) bs

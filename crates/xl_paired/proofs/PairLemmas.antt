@@ -1,32 +1,30 @@
 -- A script's text, and a run from what it opens.
-use Rattle.std.proofs.Common.{◌≡◌, ℕ, zero, suc, ◌+◌, ◌<◌, Bool, true, false, List, [], ◌∷◌, ◌++◌, length, map, take, refl, ap, sym, ◌∙◌, subst, arith, length-take, inl, inr}
-use Rattle.std.specs.Prelude.{slice_get, OnOk, Option, None, Some, Result, Ok, Err, nat_lt, if◌then◌else◌}
+use Rattle.std.proofs.Common.{◌++◌, ◌+◌, ◌<◌, ◌∙◌, ◌∷◌, ◌≡◌, [], ap, arith, Bool, false, inl, inr, length, List, map, refl, subst, suc, sym, take, true, zero, ℕ}
+use Rattle.std.proofs.lemmas.Bool.{cases_lt, lt-ltb}
+use Rattle.std.proofs.lemmas.List.{take_all}
+use Rattle.std.specs.Prelude.{if◌then◌else◌, Err, nat_lt, None, Ok, OnOk, Option, Result, Some}
 use Rattle.std.specs.declared.alloc.Global.{Global}
 use Rattle.std.specs.declared.vec.Vec.{Vec}
-use Rattle.std.proofs.lemmas.Bool.{cases_lt, lt-ltb}
-use Rattle.std.proofs.lemmas.List.{append-nil, take_all}
-use Rattle.xl_model.specs.declared.address.Kind.{Kind}
-use Rattle.xl_model.specs.declared.fault.InputFault.{InputFault}
-use Rattle.xl_model.specs.Courses.{Trail}
-use Rattle.xl_outside.specs.Whole.{ReadsWhole}
-use Rattle.xl_outside.specs.Fronts.{with_none}
-use Rattle.xl_outside.specs.Sinks.{SinkMeaning, SinkAfter}
-use Rattle.xl_outside.proofs.SinkLemmas.{sink_same}
-use Rattle.xl_script.specs.declared.fault.ScriptFault.{ScriptFault}
-use Rattle.xl_script.specs.declared.fault.ScriptFault.TheVariants as fault
-use Rattle.xl_script.specs.Texts.{script_lines}
-use Rattle.xl_script.specs.Scripts.{Said, Reading, lines_read, text_read}
-use Rattle.xl_course.specs.declared.stop.Stop.{Stop}
-use Rattle.xl_course.specs.declared.stop.Stop.TheVariants as why
-use Rattle.xl_course.specs.Stops.{is_all_put, StopsOpening}
-use Rattle.xl_course.specs.Meanings.{states_after, printed_by}
-use Rattle.xl_course.specs.Serving.{HasServed, Skimmed, StateAfter}
 use Rattle.xl_course.specs.Accounts.{account, Ends, EndsAs}
-use Rattle.xl_course.proofs.ServedLemmas.{served-unprinted}
-use Rattle.xl_serving.specs.Inputs.{Finds, said_by, said_in, script_fault}
-use Rattle.xl_paired.specs.Pairs.{Command, Referenced, Pairing, events_from, meaning_of, course_of, script_said, account_from, state_from, account_by, left_by}
-use Rattle.xl_serving.proofs.InputLemmas.{longer}
+use Rattle.xl_course.specs.Meanings.{printed_by, states_after}
+use Rattle.xl_course.specs.Serving.{HasServed}
+use Rattle.xl_course.specs.Stops.{StopsOpening}
+use Rattle.xl_course.specs.declared.stop.Stop.{Stop}
+use Rattle.xl_model.specs.Courses.{Trail}
+use Rattle.xl_model.specs.declared.fault.InputFault.{InputFault}
+use Rattle.xl_outside.proofs.SinkLemmas.{sink_same}
+use Rattle.xl_outside.specs.Fronts.{with_none}
+use Rattle.xl_outside.specs.Sinks.{SinkAfter, SinkMeaning}
+use Rattle.xl_outside.specs.Whole.{ReadsWhole}
+use Rattle.xl_script.specs.Scripts.{lines_read, Reading, Said, text_read}
+use Rattle.xl_script.specs.Texts.{script_lines}
+use Rattle.xl_script.specs.declared.fault.ScriptFault.{ScriptFault}
 use Rattle.xl_serving.proofs.EndLemmas.{none_failed}
+use Rattle.xl_serving.proofs.InputLemmas.{longer}
+use Rattle.xl_serving.specs.Inputs.{Finds, said_by, said_in, script_fault}
+use Rattle.xl_paired.specs.Pairs.{account_by, account_from, Command, course_of, events_from, left_by, meaning_of, Pairing, script_said, state_from}
+use Rattle.xl_course.specs.declared.stop.Stop.TheVariants as why
+use Rattle.xl_script.specs.declared.fault.ScriptFault.TheVariants as fault
 
 module _ {S C : Type 0} (said : S → List (List ℕ) → Said S C) (start : S) where
   -- a text of which one byte more than the limit was read is too long as it was
@@ -78,10 +76,6 @@ module _ {A C E S : Type 0} (p : Pairing A C E S) where
   printed-commands true (e ∷ es) s = printed-commands true es (p.after e s)
   printed-commands false (e ∷ es) s = printed-commands false es (p.after e s)
 
-  -- no record was taken
-  pub skimmed_none : (reads_from : Type 0) (t : Trail) (s : S) → reads_from → Skimmed (meaning_of p) reads_from t t s s 0
-  skimmed_none reads_from t s h = record { still_reads = h; taken = []; split = refl; follow = refl; many = refl }
-
   module _ {K : Type 0} (sink : SinkMeaning K) where
     -- events of commands were served, which have no lines
     pub served_commands : (answers : Bool) (es : List E) (s t : S) (k : K) → t ≡ commanded es s
@@ -90,34 +84,6 @@ module _ {A C E S : Type 0} (p : Pairing A C E S) where
       state_is = e;
       writes = subst (λ (text : List ℕ). SinkAfter sink text k k true) (sym (printed-commands answers es s)) (sink_same sink k);
     }
-
-    state-known : (whole : Bool) (number va : ℕ) (kind : Kind) (s t : S) → t ≡ p.after (p.access va kind) s → StateAfter (meaning_of p) whole (Referenced number va kind ∷ []) s t
-    state-known true number va kind s t h = h
-    state-known false number va kind s t h = tt
-
-    -- an access was served, and its line put
-    pub served_known : (number va : ℕ) (kind : Kind) (s t : S) (k l : K) (whole : Bool) → t ≡ p.after (p.access va kind) s → SinkAfter sink (p.line number va kind s) k l whole
-        → HasServed (meaning_of p) sink true (Referenced number va kind ∷ []) s t k l whole
-    served_known number va kind s t k l whole h w = record {
-      state_is = state-known whole number va kind s t h;
-      writes = subst (λ (text : List ℕ). SinkAfter sink text k l whole) (sym (append-nil (p.line number va kind s))) w;
-    }
-
-    -- an access was served of which no line is wanted
-    pub served_quietly : (number va : ℕ) (kind : Kind) (s t : S) (k : K) → t ≡ p.after (p.access va kind) s
-        → HasServed (meaning_of p) sink false (Referenced number va kind ∷ []) s t k k true
-    served_quietly number va kind s t k h = served-unprinted (meaning_of p) sink (Referenced number va kind ∷ []) s t k h
-
--- the steps of some commands
-pub length_steps : {C D : Type 0} (f : C → D) (cs : List C) → length (map f cs) ≡ length cs
-length_steps f [] = refl
-length_steps f (c ∷ cs) = ap suc (length_steps f cs)
-
-pub nth_step : {C D : Type 0} (f : C → D) (cs : List C) (i : ℕ) (c : C) → slice_get cs i ≡ Some c → slice_get (map f cs) i ≡ Some (f c)
-nth_step f [] zero c h = absurd (grind arith)
-nth_step f [] (suc i) c h = absurd (grind arith)
-nth_step f (d ∷ cs) zero c h = let e : d ≡ c = cc in ap (λ z. Some (f z)) e
-nth_step f (d ∷ cs) (suc i) c h = nth_step f cs i c h
 
 on-ok : (r : Result (Unit {0}) Stop) (P Q : Type 0) → (P → Q) → OnOk r P → OnOk r Q
 on-ok (Ok u) P Q f h = f h
@@ -154,13 +120,5 @@ module _ {K A C E S : Type 0} (p : Pairing A C E S) (answers : Bool) (roomy : K 
   stopped_ends view stop out old left b h = record {
     as_said = stopped_as view stop out h;
     room = λ room m n. (none_failed stop b, (room, m));
-    served = tt;
-  }
-
-  -- there was no memory for what the script opens
-  pub memory_ends : (out : Option (List ℕ)) (old : K) (left : Type 0) → Ends (Err why.NoMemory) (account_by p answers t by) roomy out out old old left
-  memory_ends out old left = record {
-    as_said = inl refl;
-    room = λ room m n. (refl, (room, m));
     served = tt;
   }

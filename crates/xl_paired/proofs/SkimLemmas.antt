@@ -1,15 +1,15 @@
 -- Accesses that a source gives together.
-use Rattle.std.proofs.Common.{◌≡◌, ℕ, List, [], ◌∷◌, ◌++◌, map, refl, ap, sym, ◌∙◌}
-use Rattle.xl_model.specs.declared.address.Kind.{Kind}
-use Rattle.xl_model.specs.Courses.{Accesses, Trail}
-use Rattle.xl_lackey.specs.declared.skim.Access.{Access}
-use Rattle.xl_lackey.specs.Skims.{pair}
+use Rattle.std.proofs.Common.{◌++◌, ◌∙◌, ◌∷◌, ◌≡◌, [], ap, List, map, refl, sym, ℕ}
+use Rattle.xl_course.proofs.MeaningLemmas.{states-append}
 use Rattle.xl_course.specs.Courses.{accesses_items, items_of, items_of_all}
 use Rattle.xl_course.specs.Meanings.{states_after}
 use Rattle.xl_course.specs.Serving.{Skimmed}
-use Rattle.xl_course.specs.Sources.{Skims, accesses_of_all}
-use Rattle.xl_course.proofs.MeaningLemmas.{states-append}
-use Rattle.xl_paired.specs.Pairs.{Referenced, Pairing, accesses_after, meaning_of}
+use Rattle.xl_course.specs.Sources.{accesses_of_all, Skims}
+use Rattle.xl_lackey.specs.Skims.{pair}
+use Rattle.xl_lackey.specs.declared.skim.Access.{Access}
+use Rattle.xl_model.specs.Courses.{Accesses, Trail}
+use Rattle.xl_model.specs.declared.address.Kind.{Kind}
+use Rattle.xl_paired.specs.Pairs.{accesses_after, meaning_of, Pairing, Referenced}
 
 module _ {A C E S : Type 0} (p : Pairing A C E S) where
   -- the state after accesses by address and kind

@@ -4,7 +4,6 @@ pub use Rattle.std.proofs.lemmas.List.{append-nil, drop_all, map-append, map-id,
 pub use Rattle.std.proofs.lemmas.List.Elements.{All-append, All-cons, All-drop, All-push, All-set, All-take}
 pub use Rattle.std.specs.List.{All}
 pub use Rattle.std.specs.Prelude.{IfSome, slice_get, slice_index_or, slice_set}
-pub use Rattle.serde_json.specs.Data.{Data}
 pub use Rattle.serde_json.specs.View.{items_of, view}
 pub use Rattle.xl_lackey.specs.declared.skim.Access.{Access}
 pub use Rattle.xl_machine.specs.Served.{accessed_by, after_of, IsFramed}
@@ -29,7 +28,6 @@ pub use Rattle.xl_model.specs.declared.script.Item.{Item}
 pub use Rattle.xl_model.specs.declared.script.Item.TheVariants.{Command, Declared, Referenced}
 pub use Rattle.xl_outside.proofs.SinkLemmas.{sink_cut, sink_same, sink_then}
 pub use Rattle.xl_outside.specs.Sinks.{SinkAfter, SinkMeaning}
-pub use Rattle.xl_report.proofs.JsonLemmas.{pushed, rows-plain}
 pub use Rattle.xl_report.specs.Json.{row_object, row_objects}
 pub use Rattle.xl_serving.specs.Serving.{HasServed, scene_of, SceneAfter}
 pub use Rattle.xl_tagged.specs.Forms.{One, Sixteen}

@@ -80,10 +80,6 @@ pub access-space : (row : Row) (va : ℕ) (k : Kind) (s : RowState) → (after_e
 unfolding after_event rule done accessed
 access-space row va k s = where-space (is_canonical row.mode va) k (page_of row.mode va) s
 
-pub none-of : (area : Option Area) → ((a : Area) → area ≡ Some a → ⊥) → area ≡ None
-none-of None not = refl
-none-of (Some a) not = absurd (not a refl)
-
 -- where no map was done, nothing more is served
 again-none : (o : Outcome) (va : ℕ) (k : Kind) (v : Served) → (o ≡ outcome.Done → ⊥) → again_after o va k v ≡ v
 again-none outcome.Done va k v not = absurd (not refl)

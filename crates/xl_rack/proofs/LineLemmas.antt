@@ -14,17 +14,14 @@ module _ {K : Type 0} (sink : SinkMeaning K) where
   pub lines-then : (answers : Bool) (xs ys : List ℕ) (a b c : K) (whole : Bool) → SinkAfter sink (line_where answers xs) a b true
       → SinkAfter sink (line_where answers ys) b c whole → SinkAfter sink (line_where answers (xs ++ ys)) a c whole
   lines-then answers xs ys a b c whole first next =
-      let P : List ℕ → Type 0 = λ t. SinkAfter sink t a c whole in
-      subst P (sym (line-more answers xs ys)) (sink_then sink (line_where answers xs) (line_where answers ys) a b c whole first next)
+      subst (λ (t : List ℕ). SinkAfter sink t a c whole) (sym (line-more answers xs ys)) (sink_then sink (line_where answers xs) (line_where answers ys) a b c whole first next)
 
   pub lines-cut : (answers : Bool) (xs ys : List ℕ) (a b : K) → SinkAfter sink (line_where answers xs) a b false
       → SinkAfter sink (line_where answers (xs ++ ys)) a b false
   lines-cut answers xs ys a b first =
-      let P : List ℕ → Type 0 = λ t. SinkAfter sink t a b false in
-      subst P (sym (line-more answers xs ys)) (sink_cut sink (line_where answers xs) (line_where answers ys) a b first)
+      subst (λ (t : List ℕ). SinkAfter sink t a b false) (sym (line-more answers xs ys)) (sink_cut sink (line_where answers xs) (line_where answers ys) a b first)
 
   -- no line
   pub lines-none : (answers : Bool) (a : K) → SinkAfter sink (line_where answers []) a a true
   lines-none answers a =
-      let P : List ℕ → Type 0 = λ t. SinkAfter sink t a a true in
-      subst P (sym (no-line answers)) (sink_same sink a)
+      subst (λ (t : List ℕ). SinkAfter sink t a a true) (sym (no-line answers)) (sink_same sink a)

@@ -1,6 +1,6 @@
 -- Row after row.
 use Rattle.xl_rack.proofs.Common.{◌++◌, ◌+◌, ◌<◌, ◌∙◌, ◌∷◌, ◌≡◌, ◌≤◌, [], ap, append-nil, append_assoc, Area, areas_after, arith, at_place, Bool, Counts, drop, drop_all, false, HasServed, IfSome, Item, item_lines, length, line_where, List, printed_by, refl, Row, row_line, row_lines, rows_after, rows_lines, scene_after, scene_of, SceneAfter, Served, served_after, ServedAt, sink_cut, sink_then, SinkAfter, SinkMeaning, slice_get, Some, subst, suc, sym, take, take-append-drop, take_all, true, zero, ℕ}
-use Rattle.xl_rack.proofs.LineLemmas.{lines-cut, lines-none, lines-then}
+use Rattle.xl_rack.proofs.LineLemmas.{lines-cut, lines-then}
 use Rattle.xl_rack.proofs.PlaceLemmas.{some-of}
 
 pub lines-append : (item : Item) (areas : List Area) (xs ys : List Served) → rows_lines item areas (xs ++ ys) ≡ rows_lines item areas xs ++ rows_lines item areas ys
@@ -51,9 +51,6 @@ take_next rows i v h = (let e : i + 1 ≡ suc i = omega arith in ap (λ (j : ℕ
     one (r ∷ rows) zero h = let e : r ≡ v = cc in ap (λ (w : Served). w ∷ []) e
     one (r ∷ rows) (suc i) h = ap (λ (rest : List Served). r ∷ rest) (one rows i h)
 
-parts : (rows : List Served) (i : ℕ) (v : Served) → slice_get rows i ≡ Some v → rows ≡ (take i rows ++ v ∷ []) ++ drop (i + 1) rows
-parts rows i v h = sym (take-append-drop (i + 1) rows) ∙ ap (λ (xs : List Served). xs ++ drop (i + 1) rows) (take_next rows i v h)
-
 lines-next : (item : Item) (areas : List Area) (rows : List Served) (i : ℕ) (v : Served) → slice_get rows i ≡ Some v
     → rows_lines item areas (take (i + 1) rows) ≡ rows_lines item areas (take i rows) ++ item_lines item areas v.row v.state
 lines-next item areas rows i v h =
@@ -90,9 +87,6 @@ module _ {K : Type 0} (sink : SinkMeaning K) where
     pub rows_are : q ≡ partly item areas p i
     pub writes : SinkAfter sink (line_where answers (rows_lines item areas (take i p))) k l true
 
-  pub nothing-yet : (answers : Bool) (item : Item) (areas : List Area) (p : List Served) (k : K) → Going answers item areas 0 p p k k
-  nothing-yet answers item areas p k = record { rows_are = refl; writes = lines-none sink answers k }
-
   -- the lines of the row at the place
   next-known : (answers : Bool) (item : Item) (areas : List Area) (i : ℕ) (p q r : List Served) (k l m : K) (whole : Bool) (v : Served) → slice_get p i ≡ Some v → i < length p
       → Going answers item areas i p q k l → ServedAt sink answers i (served_after item areas) (λ w. item_lines item areas w.row w.state) q r l m whole
@@ -106,10 +100,9 @@ module _ {K : Type 0} (sink : SinkMeaning K) where
       → Going answers item areas (i + 1) p r k m
   one-more answers item areas i p q r k l m h going x =
       let (v, e) = the-row p i h in
-      let P : List ℕ → Type 0 = λ t. SinkAfter sink (line_where answers t) k m true in
       record {
         rows_are = x.rows_are ∙ ap (at_place (served_after item areas) i) going.rows_are ∙ next_place item areas p i h;
-        writes = subst P (sym (lines-next item areas p i v e)) (next-known answers item areas i p q r k l m true v e h going x);
+        writes = subst (λ (t : List ℕ). SinkAfter sink (line_where answers t) k m true) (sym (lines-next item areas p i v e)) (next-known answers item areas i p q r k l m true v e h going x);
       }
 
   -- all rows were served
@@ -132,10 +125,9 @@ module _ {K : Type 0} (sink : SinkMeaning K) where
       next-known answers item areas i p q r k l m false v e h going x in
       let P : List ℕ → Type 0 = λ t. SinkAfter sink (line_where answers t) k m false in
       let upto : SinkAfter sink (line_where answers (rows_lines item areas (take (i + 1) p))) k m false = subst P (sym (lines-next item areas p i v e)) front in
-      let Q : List ℕ → Type 0 = λ t. SinkAfter sink t k m false in
       record {
         scene_is = tt;
-        writes = subst Q (ap (line_where answers) (sym (lines-parts item areas p (i + 1))) ∙ known-item answers item areas p)
+        writes = subst (λ (t : List ℕ). SinkAfter sink t k m false) (ap (line_where answers) (sym (lines-parts item areas p (i + 1))) ∙ known-item answers item areas p)
             (lines-cut sink answers (rows_lines item areas (take (i + 1) p)) (rows_lines item areas (drop (i + 1) p)) k m upto);
       }
 
@@ -147,12 +139,10 @@ module _ {K : Type 0} (sink : SinkMeaning K) where
       let (v, e) = the-row rows i h in
       let same : row ≡ v.row = some-of _ _ v named e in
       let equal : counts ≡ v.state.counts = some-of _ _ v counted e in
-      let P : List ℕ → Type 0 = λ t. SinkAfter sink t k m whole in
       let second : SinkAfter sink (row_line v.row.name v.state.counts) l m whole = rw (same, equal) at next in
-      subst P (sym (row-lines-next rows i v e)) (sink_then sink (row_lines (take i rows)) (row_line v.row.name v.state.counts) k l m whole first second)
+      subst (λ (t : List ℕ). SinkAfter sink t k m whole) (sym (row-lines-next rows i v e)) (sink_then sink (row_lines (take i rows)) (row_line v.row.name v.state.counts) k l m whole first second)
 
   pub rows-cut : (rows : List Served) (i : ℕ) (k l : K) → SinkAfter sink (row_lines (take i rows)) k l false → SinkAfter sink (row_lines rows) k l false
   rows-cut rows i k l first =
-      let P : List ℕ → Type 0 = λ t. SinkAfter sink t k l false in
-      subst P (sym (row-lines-append (take i rows) (drop i rows)) ∙ ap row_lines (take-append-drop i rows))
+      subst (λ (t : List ℕ). SinkAfter sink t k l false) (sym (row-lines-append (take i rows) (drop i rows)) ∙ ap row_lines (take-append-drop i rows))
       (sink_cut sink (row_lines (take i rows)) (row_lines (drop i rows)) k l first)

@@ -1,5 +1,5 @@
 -- The names that this crate's proofs import from elsewhere, passed on from one place. Declares nothing.
-pub use Rattle.std.proofs.Common.{if◌then◌else◌, ◌%◌, ◌&&◌, ◌*◌, ◌++◌, ◌+◌, ◌-◌, ◌/◌, ◌<◌, ◌==◌, ◌^◌, ◌∙◌, ◌∷◌, ◌≡◌, ◌≢◌, ◌≤◌, ◌⊎◌, [], ap, append_assoc, arith, Bool, cond, drop, false, inl, inr, length, length-append, List, lit<, map, nat_le, nat_lt, None, not, Option, refl, replicate, slice_index, slice_index_or, slice_set, Some, subst, suc, sym, take, true, zero, ℕ}
+pub use Rattle.std.proofs.Common.{if◌then◌else◌, ◌%◌, ◌&&◌, ◌*◌, ◌++◌, ◌+◌, ◌-◌, ◌/◌, ◌<◌, ◌==◌, ◌^◌, ◌∙◌, ◌∷◌, ◌≡◌, ◌≢◌, ◌≤◌, ◌⊎◌, [], ap, append_assoc, arith, Bool, cond, drop, false, inl, inr, length, length-append, List, lit<, map, nat_le, nat_lt, None, not, Option, refl, replicate, rules, slice_index, slice_index_or, slice_set, Some, subst, suc, sym, take, true, zero, ℕ}
 pub use Rattle.std.proofs.lemmas.Bool.{cases_eq, cases_lt, eq-eqb, eqb-false, eqb-true, false_from_ne_true, false≢true}
 pub use Rattle.std.proofs.lemmas.Bool.Decides.{nat_tests}
 pub use Rattle.std.proofs.lemmas.Grind.{get_or_default_zero}
@@ -30,8 +30,7 @@ pub use Rattle.xl_model.specs.declared.leaf.Leaf.{Leaf}
 pub use Rattle.xl_model_lemmas.proofs.EndLemmas.{up-from}
 pub use Rattle.xl_model_lemmas.proofs.InsertionLemmas.{In-with, In-without, same-place, sorted-with, sorted-without, stays-with, with-In, without-In, without-other}
 pub use Rattle.xl_model_lemmas.proofs.MappingLemmas.{named-In, named-is}
-pub use Rattle.xl_model_lemmas.proofs.OrderLemmas.{level-low, order-same, pages-some}
-pub use Rattle.xl_model_lemmas.proofs.PlaceLemmas.{aligned-frame, named-first, named-order, named-space}
+pub use Rattle.xl_model_lemmas.proofs.PlaceLemmas.{aligned-frame, level-low, named-first, named-order, named-space, pages-some}
 pub use Rattle.xl_model_lemmas.proofs.SortedLemmas.{same-sorted, with-without}
 unfoldable pub use Rattle.xl_pte.specs.Decode.{decode_of}
 pub use Rattle.xl_pte.specs.declared.word.Pte.{Pte}

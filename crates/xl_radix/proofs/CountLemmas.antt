@@ -55,16 +55,6 @@ filled-more words at (suc n) i w h g e f =
         let b : slice_index (slice_set words (at + i) w) (at + n) ≡ slice_index words (at + n) = get_or-set_other words (at + i) (at + n) w 0 (λ e. omega arith) in
         rw (r, b) (omega arith)
 
--- a run with a word that is 0 isn't full
-pub filled-less : (words : List ℕ) (at n i : ℕ) → i < n → slice_index words (at + i) ≡ 0 → filled words at n < n
-unfolding filled
-filled-less words at zero i h e = absurd (omega arith)
-filled-less words at (suc n) i h e =
-    elim (split-less i n h) [
-      | inl k ↦ let c : slice_index words (at + n) ≡ 0 = subst (λ (v : ℕ). slice_index words (at + v) ≡ 0) k e in let l = filled-le words at n in rw c (omega arith)
-      | inr k ↦ let r = filled-less words at n i k e in let g = one-le (slice_index words (at + n)) in omega arith
-    ]
-
 pub filled-nothing : (words : List ℕ) (at n : ℕ) → ((i : ℕ) → i < n → slice_index words (at + i) ≡ 0) → filled words at n ≡ 0
 unfolding filled
 filled-nothing words at zero h = refl

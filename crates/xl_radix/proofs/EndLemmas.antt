@@ -3,8 +3,7 @@ use Rattle.xl_radix.proofs.Common.{◌*◌, ◌+◌, ◌-◌, ◌<◌, ◌∙◌
 use Rattle.xl_radix.proofs.CaseLemmas.{split-le}
 use Rattle.xl_radix.proofs.ListLemmas.{any-nothing, find-nothing}
 use Rattle.xl_radix.proofs.MeetLemmas.{covered, covering, meets, Met, met, Overlap}
-use Rattle.xl_radix.proofs.NumberLemmas.{number-some}
-use Rattle.xl_radix.proofs.SlotLemmas.{At, in-nodes, in-nodes-leaf, leaf-in-none, leaf-in-some, Under}
+use Rattle.xl_radix.proofs.SlotLemmas.{At, in-nodes, in-nodes-leaf, leaf-in-none, leaf-in-some, number-some, Under}
 
 -- the nodes of a page end at the first level, from this one on, whose node is needed
 pub end-is : (n a l space page : ℕ) (leaves : List Leaf) → a ≤ l → l ≤ a + n
@@ -22,8 +21,7 @@ end-is (suc n) a l space page leaves low high none last =
           elim last [
             | inl e ↦ absurd (omega arith)
             | inr k ↦
-                let P : ℕ → Type 0 = λ m. in_nodes space (suc m) (up (suc m) page) leaves ≡ true in
-                let here : in_nodes space (suc a) (up (suc a) page) leaves ≡ true = subst P (sym same) k in
+                let here : in_nodes space (suc a) (up (suc a) page) leaves ≡ true = subst (λ (m : ℕ). in_nodes space (suc m) (up (suc m) page) leaves ≡ true) (sym same) k in
                 rw here same
           ]
     ] refl

@@ -1,12 +1,8 @@
 -- The free numbers beside the nodes by number.
-use Rattle.xl_radix.proofs.Common.{◌++◌, ◌+◌, ◌-◌, ◌<◌, ◌∙◌, ◌∷◌, ◌≡◌, ◌≤◌, [], ap, arith, Bool, false, free_count, IfNone, IfSome, is_none, length, List, map, Node, None, opening_nodes, Option, position, position_from, position_from-zero, put_first, refl, replicate, roots, slice_index_or, slice_set, Some, subst, suc, sym, true, zero, ℕ}
+use Rattle.xl_radix.proofs.Common.{◌++◌, ◌+◌, ◌-◌, ◌<◌, ◌∙◌, ◌∷◌, ◌≡◌, ◌≤◌, [], ap, arith, Bool, false, free_count, IfNone, IfSome, is_none, List, map, Node, None, opening_nodes, Option, position, position_from, position_from-zero, put_first, refl, replicate, roots, slice_index_or, slice_set, Some, subst, suc, sym, true, zero, ℕ}
 use Rattle.xl_numbers.specs.Free.{HasNone, IsLowest}
-use Rattle.xl_radix.proofs.NumberLemmas.{free-none}
 use Rattle.xl_radix.proofs.OpeningLemmas.{none-node, opening-count}
-
-pub length-free : (nodes : List (Option Node)) → length (map is_none nodes) ≡ length nodes
-length-free [] = refl
-length-free (x ∷ xs) = ap suc (length-free xs)
+use Rattle.xl_radix.proofs.SlotLemmas.{free-none}
 
 set-free : (nodes : List (Option Node)) (k : ℕ) (y : Option Node) → slice_set (map is_none nodes) k (is_none y) ≡ map is_none (slice_set nodes k y)
 set-free [] k y = refl
@@ -33,9 +29,6 @@ lowest-position nodes free k e low =
 
 pub none-position : (nodes : List (Option Node)) (free : List Bool) → free ≡ map is_none nodes → HasNone free → position is_none nodes ≡ None
 none-position nodes free e none = position_from-zero is_none nodes ∙ not-free nodes 0 (subst (λ (l : List Bool). HasNone l) e none)
-
-pub lowest-within : (nodes : List (Option Node)) (free : List Bool) (k : ℕ) → free ≡ map is_none nodes → IsLowest free k → k < length nodes
-lowest-within nodes free k e low = let h = low.within in let a = ap length e in let b = length-free nodes in omega arith
 
 -- A number taken or given back in both.
 pub put-free : (nodes : List (Option Node)) (free : List Bool) (k : ℕ) (y : Option Node) (v : Bool) → free ≡ map is_none nodes → is_none y ≡ v → slice_set free k v ≡ map is_none (slice_set nodes k y)

@@ -3,8 +3,7 @@ use Rattle.xl_radix.proofs.Common.{◌%◌, ◌*◌, ◌+◌, ◌-◌, ◌/◌, 
 use Rattle.xl_radix.proofs.CaseLemmas.{split-le}
 use Rattle.xl_radix.proofs.EndLemmas.{none-word, word-none}
 use Rattle.xl_radix.proofs.MadeNodeLemmas.{at_node-is, new-below, new_node, not-below, places, stored-same}
-use Rattle.xl_radix.proofs.NumberLemmas.{below-is, Is, node-in, number-set-any, number-some, number-there}
-use Rattle.xl_radix.proofs.SlotLemmas.{At, in-nodes, in-nodes-leaf, leaf-in-none, leaf-in-some, Under}
+use Rattle.xl_radix.proofs.SlotLemmas.{At, below-is, in-nodes, in-nodes-leaf, Is, leaf-in-none, leaf-in-some, node-in, number-set-any, number-some, number-there, Under}
 
 -- Node k is below slot (s, l + 1, q), and its words are 0.
 pub record IsEmpty (s l q k : ℕ) (nodes : List (Option Node)) (words : List ℕ) : Type 0 where

@@ -1,10 +1,9 @@
 mod Common
 mod CaseLemmas
 mod ListLemmas
-pub mod NumberLemmas
 pub mod UpLemmas
 mod MeetLemmas
-mod SlotLemmas
+pub mod SlotLemmas
 mod EndLemmas
 mod MadeNodeLemmas
 mod PlacedLeafLemmas
@@ -15,10 +14,7 @@ mod PathLemmas
 pub mod OpeningLemmas
 mod FreeLemmas
 mod LookLemmas
-pub mod FoundLemmas
-mod FilledLemmas
 pub mod LazyLemmas
-mod WalkLemmas
 mod TakenLeafLemmas
 pub mod FreedNodeLemmas
 mod RemovalLemmas

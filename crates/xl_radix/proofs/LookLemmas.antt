@@ -1,11 +1,11 @@
 -- What the table's questions answer.
-use Rattle.xl_radix.proofs.Common.{◌%◌, ◌*◌, ◌+◌, ◌-◌, ◌<◌, ◌==◌, ◌^◌, ◌∙◌, ◌≡◌, ◌≢◌, ◌≤◌, ◌⊎◌, aligned-frame, any-false, arith, Bool, decode_of, false, free_count, has_room, In, inl, inr, Insert, IsBlock, IsEnd, IsLeafFor, IsNew, IsStore, Leaf, leaf_at_page, leaf_in, leaf_nodes_missing, leaf_said, level_of, List, meets_any, meets_block, missing, nat_le, nat_tests, Node, None, not, number_of, Option, Order, order_of, pages-some, pages_of, Pte, Radix, refl, shape_of, slice_index, Some, suc, sym, Table, true, up, zero, ℕ}
+use Rattle.xl_radix.proofs.Common.{◌%◌, ◌*◌, ◌+◌, ◌-◌, ◌<◌, ◌==◌, ◌^◌, ◌∙◌, ◌≡◌, ◌≢◌, ◌≤◌, ◌⊎◌, aligned-frame, any-false, arith, Bool, decode_of, false, free_count, has_room, In, inl, inr, Insert, IsBlock, IsEnd, IsLeafFor, IsNew, IsStore, Leaf, leaf_at_page, leaf_in, leaf_nodes_missing, leaf_said, level_of, List, meets_any, meets_block, missing, nat_le, nat_tests, Node, None, not, number_of, Option, Order, order_of, pages-some, pages_of, Pte, Radix, refl, shape_of, slice_index, Some, sym, Table, true, up, ℕ}
 use Rattle.xl_radix.proofs.EndLemmas.{a-leaf-meets, found-at, found-none, IsTable, no-leaf-meets}
 use Rattle.xl_radix.proofs.MeetLemmas.{meets, Met}
 use Rattle.xl_radix.proofs.ReadBackLemmas.{said-is}
 use Rattle.xl_radix.proofs.SlotLemmas.{pointer-low}
 use Rattle.xl_radix.proofs.StepLemmas.{read-says, read-word}
-use Rattle.xl_radix.proofs.UpLemmas.{up-top}
+use Rattle.xl_radix.proofs.UpLemmas.{page-low, up-top}
 use Rattle.xl_model.specs.declared.address.Order.TheVariants as order
 
 -- Where the walk of a page stops, the slot has the page's leaf, or the page has none.
@@ -33,15 +33,6 @@ aligned-up : (o : Order) (first e : ℕ) → first ≡ e * pages_of o → up (le
 aligned-up order.K4 first e h = omega arith
 aligned-up order.M2 first e h = omega arith
 aligned-up order.G1 first e h = omega arith
-
-limit-low : (top page : ℕ) → 3 ≤ top → top ≤ 5 → page < 2 ^ (9 * top) → page < 2 ^ 52
-limit-low zero page h g b = absurd (omega arith)
-limit-low (suc zero) page h g b = absurd (omega arith)
-limit-low (suc (suc zero)) page h g b = absurd (omega arith)
-limit-low (suc (suc (suc zero))) page h g b = omega arith
-limit-low (suc (suc (suc (suc zero)))) page h g b = omega arith
-limit-low (suc (suc (suc (suc (suc zero))))) page h g b = omega arith
-limit-low (suc (suc (suc (suc (suc (suc l)))))) page h g b = absurd (omega arith)
 
 pub block-aligned : (top spaces s first : ℕ) (o : Order) (nodes : List (Option Node)) → IsBlock (Radix top spaces nodes) s first o → up (level_of o) first * pages_of o ≡ first
 block-aligned top spaces s first o nodes b = aligned-up o first b.aligned.0 b.aligned.1
@@ -73,8 +64,8 @@ is-new top spaces x leaves nodes words used store valid free =
       proper = record {
         space_in = valid.block.space_in;
         aligned = aligned;
-        first_in = up-top top x.first store.high store.low first;
-        key_in = limit-low top x.first store.high store.low first;
+        first_in = up-top top x.first store.low first;
+        key_in = (let low : x.first < 2 ^ 45 = page-low top x.first store.low first in omega arith);
         frame_in = let h : x.frame + pages_of x.order ≤ 2 ^ 44 = valid.frames_in in let g = pages-some x.order in omega (arith, h, g);
         frame_aligned = aligned-frame x.order x.frame valid.frames_aligned.0 valid.frames_aligned.1;
       };

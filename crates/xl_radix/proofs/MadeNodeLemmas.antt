@@ -1,7 +1,6 @@
 -- A node is made below an empty slot.
 use Rattle.xl_radix.proofs.Common.{◌%◌, ◌*◌, ◌+◌, ◌-◌, ◌/◌, ◌<◌, ◌==◌, ◌∙◌, ◌≡◌, ◌≢◌, ◌≤◌, ◌⊎◌, ap, arith, cases_eq, entry, false, get_or-set_other, get_or-set_same, In, in_nodes, inl, inr, is_below, IsAtNode, IsImage, IsNearly, IsRooted, Leaf, leaf_in, length, length-set, level_of, List, nat_tests, Node, None, number_of, Option, pointer_word, refl, same_Some, slice_index, slice_index_or, slice_set, Some, subst, suc, sym, true, up, word_at, word_of, ℕ}
-use Rattle.xl_radix.proofs.NumberLemmas.{below-is, below-some, Is, is-below, number-none, number-only, number-set-other, number-some, number-there}
-use Rattle.xl_radix.proofs.SlotLemmas.{At, in-nodes, leaf-in-some}
+use Rattle.xl_radix.proofs.SlotLemmas.{At, below-is, below-some, in-nodes, Is, is-below, leaf-in-some, number-none, number-only, number-set-other, number-some, number-there}
 
 -- The node below slot (s, l + 1, q).
 abbrev pub new_node : ℕ → ℕ → ℕ → Node

@@ -1,31 +1,16 @@
 -- A table that is opened.
-use Rattle.xl_radix.proofs.Common.{◌*◌, ◌++◌, ◌+◌, ◌-◌, ◌<◌, ◌∙◌, ◌∷◌, ◌≡◌, ◌≤◌, [], ap, append_assoc, arith, Bool, cases_lt, false, filled, free_count, get_or-replicate, get_or_past, in_nodes, inl, inr, is_below, IsCounted, IsExact, IsImage, IsStore, leaf_in, length, length-append, length-replicate, List, Node, None, number_of, opening_nodes, Option, read_back, refl, replicate, roots, same_Some, slice_index_or, Some, subst, suc, sym, true, word_of, zero, ℕ}
+use Rattle.xl_radix.proofs.Common.{◌*◌, ◌++◌, ◌+◌, ◌-◌, ◌<◌, ◌∙◌, ◌∷◌, ◌≡◌, ◌≤◌, [], ap, arith, Bool, cases_lt, false, filled, free_count, get_or-replicate, get_or_past, in_nodes, inl, inr, is_below, IsCounted, IsExact, IsImage, IsStore, leaf_in, length, length-append, length-replicate, Node, None, number_of, opening_nodes, Option, read_back, refl, replicate, roots, same_Some, slice_index_or, Some, subst, suc, sym, true, word_of, zero, ℕ}
 use Rattle.xl_numbers.proofs.FlagLemmas.{zero-word}
 use Rattle.xl_radix.proofs.CountLemmas.{filled-nothing}
 use Rattle.xl_radix.proofs.EndLemmas.{none-word}
-use Rattle.xl_radix.proofs.NumberLemmas.{below-some, is-below, number-some}
 use Rattle.xl_radix.proofs.ReadBackLemmas.{reads-back}
+use Rattle.xl_radix.proofs.SlotLemmas.{below-some, is-below, number-some}
 
 abbrev pub none-node : Option Node
 none-node = None
 
 abbrev pub root : ℕ → ℕ → Node
 root levels s = record { space = s; level = levels - 1; prefix = 0 }
-
-pub roots-step : (items new : List (Option Node)) (x : Node) (levels s n : ℕ) (all : List (Option Node)) → s < n → x ≡ root levels s → new ≡ items ++ Some x ∷ [] → items ++ roots levels s (n - s) ≡ all → new ++ roots levels (s + 1) (n - (s + 1)) ≡ all
-roots-step items new x levels s n all h e f g =
-    let a : n - s ≡ suc (n - (s + 1)) = omega arith in
-    let b : items ++ roots levels s (suc (n - (s + 1))) ≡ all = subst (λ (v : ℕ). items ++ roots levels s v ≡ all) a g in
-    rw (f, e) (append_assoc items (Some (root levels s) ∷ []) (roots levels (s + 1) (n - (s + 1))) ∙ b)
-
-replicate-more : (k : ℕ) (x : Option Node) → replicate k x ++ x ∷ [] ≡ replicate (suc k) x
-replicate-more zero x = refl
-replicate-more (suc k) x = ap (λ (l : List (Option Node)). x ∷ l) (replicate-more k x)
-
-pub free-step : (items new all : List (Option Node)) (n s : ℕ) → s ≤ n → new ≡ items ++ None ∷ [] → items ≡ all ++ replicate (n - s) None → new ≡ all ++ replicate (n + 1 - s) None
-free-step items new all n s h e f =
-    let a : n + 1 - s ≡ suc (n - s) = omega arith in
-    rw (e, f, a) (append_assoc all (replicate (n - s) None) (None ∷ []) ∙ ap (λ (l : List (Option Node)). all ++ l) (replicate-more (n - s) None))
 
 none-at : (k i : ℕ) → slice_index_or (replicate k None) i (none-node) ≡ none-node
 none-at k i = elim (cases_lt i k) [

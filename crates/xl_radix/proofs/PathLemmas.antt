@@ -1,7 +1,7 @@
 -- The nodes of a page's path.
 use Rattle.xl_radix.proofs.Common.{◌+◌, ◌-◌, ◌<◌, ◌∙◌, ◌≡◌, ◌≤◌, ◌⊎◌, ap, arith, inl, inr, IsAtNode, IsEnd, IsImage, IsStore, Leaf, List, missing, Node, None, number_of, one_unless, Option, put_first, refl, Some, suc, unless_there, up, with_node, with_path, zero, ℕ}
-use Rattle.xl_radix.proofs.NumberLemmas.{number-some}
 use Rattle.xl_radix.proofs.PlacedLeafLemmas.{above}
+use Rattle.xl_radix.proofs.SlotLemmas.{number-some}
 
 pub with-node-new : (s l q : ℕ) (nodes : List (Option Node)) → number_of s l q nodes ≡ None → with_node s l q nodes ≡ put_first (record { space = s; level = l - 1; prefix = q }) nodes
 unfolding with_node

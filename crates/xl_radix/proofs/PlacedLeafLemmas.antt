@@ -3,8 +3,7 @@ use Rattle.xl_radix.proofs.Common.{◌%◌, ◌*◌, ◌+◌, ◌<◌, ◌^◌, 
 use Rattle.xl_radix.proofs.CaseLemmas.{split-less}
 use Rattle.xl_radix.proofs.ListLemmas.{find-with, find-with-other}
 use Rattle.xl_radix.proofs.MadeNodeLemmas.{IsSame, stored-same}
-use Rattle.xl_radix.proofs.NumberLemmas.{number-some, number-there}
-use Rattle.xl_radix.proofs.SlotLemmas.{At, at-slot, in-nodes, in-nodes-leaf, leaf-in-none, slot-at, Under}
+use Rattle.xl_radix.proofs.SlotLemmas.{At, at-slot, in-nodes, in-nodes-leaf, leaf-in-none, number-some, number-there, slot-at, Under}
 
 pub no-key : (top spaces : ℕ) (x : Leaf) (leaves : List Leaf) → IsRadixMapping top spaces leaves → IsNew top spaces x leaves → (y : Leaf) → In y leaves → leaf_key x ≡ leaf_key y → ⊥
 no-key top spaces x leaves m new y i e =

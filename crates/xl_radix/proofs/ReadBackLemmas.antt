@@ -2,8 +2,7 @@
 use Rattle.xl_radix.proofs.Common.{◌%◌, ◌*◌, ◌+◌, ◌/◌, ◌<◌, ◌∙◌, ◌≡◌, ◌≤◌, ◌⊎◌, ap, arith, cases_lt, In, In-with, in_nodes, inl, inr, is_below, IsImage, IsRadixMapping, Leaf, leaf_by, leaf_here, leaf_in, leaf_key, leaf_said, length, level-low, level_of, List, Node, None, number_of, Option, Order, order_of, pages_of, Pte, read_back, read_to, refl, same-place, same-sorted, slice_index_or, Some, sorted-with, stays-with, subst, suc, sym, true, up, with-In, with_leaf, with_new, word_of, zero, ℕ}
 use Rattle.xl_model_lemmas.specs.Sorted.{IsSorted}
 use Rattle.xl_radix.proofs.CaseLemmas.{split-less}
-use Rattle.xl_radix.proofs.NumberLemmas.{below-some, Is, number-some}
-use Rattle.xl_radix.proofs.SlotLemmas.{At, in-nodes, leaf-in-none, leaf-in-some, Says, says}
+use Rattle.xl_radix.proofs.SlotLemmas.{At, below-some, in-nodes, Is, leaf-in-none, leaf-in-some, number-some, Says, says}
 use Rattle.xl_model.specs.declared.address.Order.TheVariants as order
 use Rattle.xl_pte.specs.declared.word.Pte.TheVariants as pte
 

@@ -4,9 +4,8 @@ use Rattle.xl_radix.proofs.CountLemmas.{counted-less, filled-zeros}
 use Rattle.xl_radix.proofs.EndLemmas.{not-both}
 use Rattle.xl_radix.proofs.FreedNodeLemmas.{freed, freed-at, freed-nearly, freed-rooted, freed_nodes, freed_words, IsEmpty, node-is}
 use Rattle.xl_radix.proofs.MadeNodeLemmas.{new_node}
-use Rattle.xl_radix.proofs.NumberLemmas.{below-is, below-some, node-in, number-only}
 use Rattle.xl_radix.proofs.ReadBackLemmas.{own-slot, reads-back}
-use Rattle.xl_radix.proofs.SlotLemmas.{at_node-word}
+use Rattle.xl_radix.proofs.SlotLemmas.{at_node-word, below-is, below-some, node-in, number-only}
 use Rattle.xl_radix.proofs.StepLemmas.{recounted}
 use Rattle.xl_radix.proofs.TakenLeafLemmas.{IsHeld, unplaced, unplaced-mapping, unplaced-nearly, unplaced_words}
 

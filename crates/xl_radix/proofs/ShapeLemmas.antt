@@ -33,10 +33,8 @@ pub shape-added : (top spaces : ℕ) (leaf : Leaf) (leaves new_leaves : List Lea
     → Radix top spaces new ≡ shape_after (Insert leaf) leaves (Radix top spaces nodes)
 unfolding shape_after changed
 shape-added top spaces leaf leaves new_leaves nodes new exact e f =
-    let P : List Leaf → Type 0 = λ l. only_needed top l new ≡ new in
-    let kept : only_needed top (with_leaf leaf leaves) new ≡ new = subst P e (all-needed top new_leaves new exact) in
-    let Q : List (Option Node) → Type 0 = λ n. Radix top spaces new ≡ Radix top spaces (only_needed top (with_leaf leaf leaves) n) in
-    subst Q f (ap (Radix top spaces) (sym kept))
+    let kept : only_needed top (with_leaf leaf leaves) new ≡ new = subst (λ (l : List Leaf). only_needed top l new ≡ new) e (all-needed top new_leaves new exact) in
+    subst (λ (n : List (Option Node)). Radix top spaces new ≡ Radix top spaces (only_needed top (with_leaf leaf leaves) n)) f (ap (Radix top spaces) (sym kept))
 
 -- Where the nodes stay, none was given back.
 pub less-same : (nodes new : List (Option Node)) → new ≡ nodes → IsLess nodes new

@@ -1,9 +1,10 @@
 -- A leaf moves: its new place is free, its old name stays beside the new leaf, and the order in which the two
 -- come and go doesn't matter.
-use Rattle.xl_radix.proofs.Common.{◌%◌, ◌*◌, ◌+◌, ◌/◌, ◌<◌, ◌^◌, ◌∙◌, ◌≡◌, ◌≤◌, any-false, ap, arith, brought, changed, false, false≢true, free_count, has_room, In, Insert, is_leaf, is_some, IsBlock, IsLess, IsMade, IsMove, IsNamed, IsRadixMapping, IsStore, Leaf, leaf_at_page, leaf_key, leaf_named, level_of, List, meets_any, meets_block, named-first, named-In, named-is, named-order, named-space, nat_tests, Node, None, only_needed, Option, Order, pages-some, pages_of, Radix, refl, Relocate, Remove, shape_after, shape_of, Some, stays-with, subst, suc, sym, Table, true, with-without, with_leaf, with_leaf_nodes, without_leaf, zero, ℕ}
+use Rattle.xl_radix.proofs.Common.{◌%◌, ◌*◌, ◌+◌, ◌/◌, ◌<◌, ◌^◌, ◌∙◌, ◌≡◌, ◌≤◌, any-false, ap, arith, brought, changed, false, false≢true, free_count, has_room, In, Insert, is_leaf, is_some, IsBlock, IsLess, IsMade, IsMove, IsNamed, IsRadixMapping, IsStore, Leaf, leaf_at_page, leaf_key, leaf_named, level_of, List, meets_any, meets_block, named-first, named-In, named-is, named-order, named-space, nat_tests, Node, None, only_needed, Option, Order, pages-some, pages_of, Radix, refl, Relocate, Remove, shape_after, shape_of, Some, stays-with, subst, sym, Table, true, with-without, with_leaf, with_leaf_nodes, without_leaf, ℕ}
 use Rattle.xl_radix.proofs.EndLemmas.{found-at}
 use Rattle.xl_radix.proofs.ListLemmas.{found-some}
 use Rattle.xl_radix.proofs.ReadBackLemmas.{own-slot}
+use Rattle.xl_radix.proofs.UpLemmas.{limit-low}
 use Rattle.xl_model.specs.declared.address.Order.TheVariants as order
 
 -- A leaf that is named covers the page that names it.
@@ -33,15 +34,6 @@ frames-aligned : (o : Order) (frame : ℕ) → frame % 2 ^ (9 * level_of o) ≡ 
 frames-aligned order.K4 frame e = (frame, omega arith)
 frames-aligned order.M2 frame e = (frame / 512, omega arith)
 frames-aligned order.G1 frame e = (frame / 262144, omega arith)
-
-limit-low : (top : ℕ) → 3 ≤ top → top ≤ 5 → 2 ^ (9 * top) ≤ 2 ^ 45
-limit-low zero h g = absurd (omega arith)
-limit-low (suc zero) h g = absurd (omega arith)
-limit-low (suc (suc zero)) h g = absurd (omega arith)
-limit-low (suc (suc (suc zero))) h g = omega arith
-limit-low (suc (suc (suc (suc zero)))) h g = omega arith
-limit-low (suc (suc (suc (suc (suc zero))))) h g = omega arith
-limit-low (suc (suc (suc (suc (suc (suc l)))))) h g = absurd (omega arith)
 
 -- A leaf that begins where a block begins overlaps it.
 begins-meets : (s to : ℕ) (o : Order) (y : Leaf) → y.space ≡ s → y.first ≡ to → meets_block s to o y ≡ true
@@ -81,7 +73,7 @@ moves top spaces s f to o x leaves nodes words used store e block free =
     let p = store.mapping.proper x i in
     let aligned : x.frame % 2 ^ (9 * level_of o) ≡ 0 = ap (λ (v : Order). x.frame % 2 ^ (9 * level_of v)) (sym d) ∙ p.frame_aligned in
     let some = pages-some o in
-    let limit = limit-low top store.high store.low in
+    let limit = limit-low top store.low in
     let low : to < 2 ^ 52 = let h = block.pages_in in omega arith in
     let new = at_block s to o x in
     let none : (y : Leaf) → In y leaves → leaf_key new ≡ leaf_key y → ⊥ = no-key top spaces s to o leaves store.mapping low free in

@@ -1,12 +1,11 @@
 -- Steps of the table's functions.
-use Rattle.xl_radix.proofs.Common.{◌%◌, ◌*◌, ◌+◌, ◌-◌, ◌<◌, ◌∙◌, ◌≡◌, ◌≢◌, ◌≤◌, ◌⊎◌, ap, arith, decode_of, filled, free_count, get_or_default_zero, In, inl, inr, is_none, IsAtNode, IsCounted, IsEnd, IsExact, IsNearly, IsNew, IsRadixMapping, IsReady, IsStore, Leaf, leaf_in, leaf_word, length, length-set, level_of, List, Node, None, number_of, Option, pointer_word, position, Pte, read_back, refl, slice_index, slice_index_or, slice_set, Some, subst, suc, sym, up, with_leaf, word_at, zero, ℕ}
+use Rattle.xl_radix.proofs.Common.{◌%◌, ◌*◌, ◌+◌, ◌-◌, ◌<◌, ◌∙◌, ◌≡◌, ◌≢◌, ◌≤◌, ◌⊎◌, ap, arith, decode_of, filled, get_or_default_zero, In, inl, inr, IsAtNode, IsCounted, IsEnd, IsExact, IsNearly, IsNew, IsRadixMapping, IsReady, IsStore, Leaf, leaf_in, leaf_word, length, length-set, level_of, List, Node, None, number_of, Option, pointer_word, Pte, read_back, refl, slice_index, slice_index_or, slice_set, Some, subst, suc, sym, up, with_leaf, word_at, zero, ℕ}
 use Rattle.xl_radix.proofs.CountLemmas.{counted-more, filled-le}
 use Rattle.xl_radix.proofs.EndLemmas.{none-word, not-both, word-none}
 use Rattle.xl_radix.proofs.MadeNodeLemmas.{IsSpot, made, made-at_node, made-empty, made-nearly, made-rooted, made_nodes, made_words, new_node}
-use Rattle.xl_radix.proofs.NumberLemmas.{below-some, free-none, node-in, number-some}
 use Rattle.xl_radix.proofs.PlacedLeafLemmas.{placed, placed-exact, placed-mapping, placed_words}
 use Rattle.xl_radix.proofs.ReadBackLemmas.{reads-back}
-use Rattle.xl_radix.proofs.SlotLemmas.{At, at_node-word, in-nodes-leaf, leaf-in-some, pointer-low, Says, says, Under}
+use Rattle.xl_radix.proofs.SlotLemmas.{At, at_node-word, below-some, in-nodes-leaf, leaf-in-some, node-in, number-some, pointer-low, Says, says, Under}
 use Rattle.xl_pte.specs.declared.word.Pte.TheVariants as pte
 
 -- The word that was read, in the node that is at a page, is that of the slot.
@@ -160,7 +159,3 @@ count-fits top spaces n u leaves nodes words used store h e =
 
 pub at_node-in : (s page l n : ℕ) (nodes : List (Option Node)) → IsAtNode s page l n nodes → n < length nodes
 at_node-in s page l n nodes at = let b = below-some s (suc l) (up (suc l) page) _ at.at_node in node-in n nodes b.0 b.1
-
-pub some-free : (nodes : List (Option Node)) (r : Option ℕ) → r ≡ position is_none nodes → ((n : ℕ) → r ≡ Some n → ⊥) → 0 < free_count nodes → ⊥
-some-free nodes None e not h = free-none nodes (sym e) h
-some-free nodes (Some n) e not h = not n refl

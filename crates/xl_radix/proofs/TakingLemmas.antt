@@ -4,10 +4,9 @@ use Rattle.xl_radix.proofs.CountLemmas.{filled-some}
 use Rattle.xl_radix.proofs.FreedNodeLemmas.{filled-needed, kept-nearly, node-is}
 use Rattle.xl_radix.proofs.ListLemmas.{find-nothing}
 use Rattle.xl_radix.proofs.MadeNodeLemmas.{new_node}
-use Rattle.xl_radix.proofs.NumberLemmas.{below-some, node-in, number-some}
 use Rattle.xl_radix.proofs.RemovalLemmas.{Named, named}
 use Rattle.xl_radix.proofs.ShapeLemmas.{kept-one, own-slot}
-use Rattle.xl_radix.proofs.SlotLemmas.{in-nodes, leaf-in-none, slot-at}
+use Rattle.xl_radix.proofs.SlotLemmas.{below-some, in-nodes, leaf-in-none, node-in, number-some, slot-at}
 
 -- A named leaf needs the nodes above it.
 pub named-needs : (s f l : ℕ) (o : Order) (leaves : List Leaf) → IsNamed s f o leaves → level_of o < l → in_nodes s l (up l f) leaves ≡ true
@@ -45,30 +44,6 @@ still-nearly top spaces s page zero k leaves nodes words used store pos low at n
 still-nearly top spaces s page (suc l) k leaves nodes words used store pos low at ne nearly =
     let h : suc l - 1 ≡ l = omega arith in
     still-core top spaces s page l k leaves nodes words used store low (rw h at at) ne (rw h at nearly)
-
--- Giving back continues.
-pub less-trans : (a b c : List (Option Node)) → IsLess a b → IsLess b c → IsLess a c
-less-trans a b c f g = record {
-  size = g.size ∙ f.size;
-  each = λ n. elim (g.each n) [ inr e ↦ inr e | inl e ↦ elim (f.each n) [ inl d ↦ inl (e ∙ d) | inr d ↦ inr (e ∙ d) ] ];
-}
-
-pub taken-more : (j given : ℕ) (a b c : List (Option Node)) → IsTaken (j - 1) given a b → IsTaken j 1 b c → IsTaken j (given + 1) a c
-taken-more j given a b c f g = record {
-  less = less-trans a b c f.less g.less;
-  others = λ s l q n h t. g.others s l q n h (f.others s l q n (omega arith) t);
-  count = let d = f.count in let e = g.count in omega arith;
-}
-
-pub taken-up : (j given : ℕ) (a b : List (Option Node)) → IsTaken (j - 1) given a b → IsTaken j given a b
-taken-up j given a b f = record { less = f.less; others = λ s l q n h t. f.others s l q n (omega arith) t; count = f.count }
-
-pub taken-none : (j : ℕ) (a : List (Option Node)) → IsTaken j 0 a a
-taken-none j a = record {
-  less = record { size = refl; each = λ n. inl refl };
-  others = λ s l q n h t. t;
-  count = omega arith;
-}
 
 -- At the top nothing of the path is left over.
 pub nearly-exact : (top spaces s page : ℕ) (leaves : List Leaf) (nodes : List (Option Node)) (words used : List ℕ) → IsStore top spaces leaves nodes words used → IsNearly top s page (top - 1) leaves nodes → IsExact top leaves nodes

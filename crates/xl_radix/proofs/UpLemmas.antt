@@ -10,30 +10,34 @@ up-shift (suc (suc (suc zero))) page h = omega arith
 up-shift (suc (suc (suc (suc zero)))) page h = omega arith
 up-shift (suc (suc (suc (suc (suc l))))) page h = absurd (omega arith)
 
-pub up-top : (top page : ℕ) → 3 ≤ top → top ≤ 5 → page < 2 ^ (9 * top) → up top page ≡ 0
-up-top zero page h g b = absurd (omega arith)
-up-top (suc zero) page h g b = absurd (omega arith)
-up-top (suc (suc zero)) page h g b = absurd (omega arith)
-up-top (suc (suc (suc zero))) page h g b = omega arith
-up-top (suc (suc (suc (suc zero)))) page h g b = omega arith
-up-top (suc (suc (suc (suc (suc zero))))) page h g b = omega arith
-up-top (suc (suc (suc (suc (suc (suc l)))))) page h g b = absurd (omega arith)
+pub up-top : (top page : ℕ) → top ≤ 5 → page < 2 ^ (9 * top) → up top page ≡ 0
+up-top zero page h b = omega arith
+up-top (suc zero) page h b = omega arith
+up-top (suc (suc zero)) page h b = omega arith
+up-top (suc (suc (suc zero))) page h b = omega arith
+up-top (suc (suc (suc (suc zero)))) page h b = omega arith
+up-top (suc (suc (suc (suc (suc zero))))) page h b = omega arith
+up-top (suc (suc (suc (suc (suc (suc l)))))) page h b = absurd (omega arith)
 
 pub up-le : (l page : ℕ) → up l page ≤ page
 up-le zero page = omega arith
 up-le (suc l) page = let h = up-le l page in omega arith
 
-page-low : (top page : ℕ) → 3 ≤ top → top ≤ 5 → page < 2 ^ (9 * top) → page < 2 ^ 46
-page-low zero page h g b = absurd (omega arith)
-page-low (suc zero) page h g b = absurd (omega arith)
-page-low (suc (suc zero)) page h g b = absurd (omega arith)
-page-low (suc (suc (suc zero))) page h g b = omega arith
-page-low (suc (suc (suc (suc zero)))) page h g b = omega arith
-page-low (suc (suc (suc (suc (suc zero))))) page h g b = omega arith
-page-low (suc (suc (suc (suc (suc (suc l)))))) page h g b = absurd (omega arith)
+-- The largest tables have pages of 45 bits.
+pub limit-low : (top : ℕ) → top ≤ 5 → 2 ^ (9 * top) ≤ 2 ^ 45
+limit-low zero h = omega arith
+limit-low (suc zero) h = omega arith
+limit-low (suc (suc zero)) h = omega arith
+limit-low (suc (suc (suc zero))) h = omega arith
+limit-low (suc (suc (suc (suc zero)))) h = omega arith
+limit-low (suc (suc (suc (suc (suc zero))))) h = omega arith
+limit-low (suc (suc (suc (suc (suc (suc l)))))) h = absurd (omega arith)
 
-pub up-low : (l top page : ℕ) → 3 ≤ top → top ≤ 5 → page < 2 ^ (9 * top) → up l page < 2 ^ 46
-up-low l top page h g b = let a = up-le l page in let c = page-low top page h g b in omega arith
+pub page-low : (top page : ℕ) → top ≤ 5 → page < 2 ^ (9 * top) → page < 2 ^ 45
+page-low top page h b = let a : 2 ^ (9 * top) ≤ 2 ^ 45 = limit-low top h in omega arith
+
+pub up-low : (l top page : ℕ) → top ≤ 5 → page < 2 ^ (9 * top) → up l page < 2 ^ 45
+up-low l top page h b = let a = up-le l page in let c = page-low top page h b in omega arith
 
 -- A page in a leaf's interval is in its block, and conversely.
 pub covers-up : (o : Order) (first page : ℕ) → up (level_of o) first * pages_of o ≡ first → (nat_le first page && nat_lt page (first + pages_of o)) ≡ true → up (level_of o) page ≡ up (level_of o) first

@@ -1,12 +1,44 @@
 -- A change of a row: the tags of the nodes that were given back leave the caches, and no others.
-use Rattle.xl_radix_walk.proofs.Common.{◌-◌, ◌∙◌, ◌≡◌, ap, AreNumbered, arith, brought, Cached, caches_purged, Change, changed, entries_of, Err, false, finds_place, free_count, has_room, Insert, IsChange, IsMade, IsRow, Item, Leaf, level_of, List, moves_made, narrowed, Node, None, Ok, only_needed, Option, purged_caches, Radix, refl, refused_for, row_of, row_table, shape_after, shape_of, Some, subst, sym, Table, table_after, table_answer, table_made, true, verdict, widened, with_brought, with_leaf, with_leaf_nodes, work_of, ℕ}
+use Rattle.xl_radix_walk.proofs.Common.{◌%◌, ◌+◌, ◌-◌, ◌/◌, ◌∙◌, ◌∷◌, ◌≡◌, [], ap, AreNumbered, arith, below-is, Bool, brought, Cached, caches_purged, Change, changed, cond, entries_of, Err, false, finds_place, free_count, has_room, Insert, is_below, IsChange, IsMade, IsRow, Item, Leaf, level_of, List, moves_made, narrowed, Node, None, number_of, Ok, only_needed, Option, position_from, purged_caches, put_first, Radix, refl, refused_for, row_of, row_table, shape_after, shape_of, Some, subst, suc, sym, Table, table_after, table_answer, table_made, true, unless_there, up, verdict, widened, with_brought, with_leaf, with_leaf_nodes, with_node, with_path, work_of, zero, ℕ}
 use Rattle.xl_model.specs.Placing.{no_moves}
 use Rattle.xl_model.specs.declared.work.Work.{Work}
 use Rattle.xl_radix.proofs.ShapeLemmas.{count-same, less-same}
 use Rattle.xl_radix.proofs.TakingLemmas.{less-none}
-use Rattle.xl_radix_walk.proofs.KeptLemmas.{numbered-path}
 use Rattle.xl_radix_walk.proofs.PurgeLemmas.{entries-in, numbered-purged, purged-in, purged-length}
 use Rattle.xl_model.specs.declared.work.NoRoom.TheVariants as why
+
+-- New nodes leave each node its number.
+put-other : (p : Option Node → Bool) (x : Node) (xs : List (Option Node)) (b : ℕ) → p None ≡ false → p (Some x) ≡ false → position_from p b (put_first x xs) ≡ position_from p b xs
+put-other p x [] b e f = refl
+put-other p x (None ∷ xs) b e f = rw (e, f) refl
+put-other p x (Some y ∷ xs) b e f = ap (cond (p (Some y)) (Some b)) (put-other p x xs (b + 1) e f)
+
+pub node-keeps : (s l q a b c n : ℕ) (nodes : List (Option Node)) → number_of a (suc b) c nodes ≡ Some n → number_of a (suc b) c (with_node s (suc l) q nodes) ≡ Some n
+unfolding with_node number_of
+node-keeps s l q a b c n nodes h =
+    elim (number_of s (suc l) q nodes) as (λ o. number_of s (suc l) q nodes ≡ o → number_of a (suc b) c (unless_there o nodes (put_first (record { space = s; level = suc l - 1; prefix = q }) nodes)) ≡ Some n) [
+      | Some m ↦ λ e. h
+      | None ↦ λ e. elim (is_below a (suc b) c (Some (record { space = s; level = suc l - 1; prefix = q }))) as (λ t. is_below a (suc b) c (Some (record { space = s; level = suc l - 1; prefix = q })) ≡ t → number_of a (suc b) c (put_first (record { space = s; level = suc l - 1; prefix = q }) nodes) ≡ Some n) [
+        | false ↦ λ f. put-other (is_below a (suc b) c) (record { space = s; level = suc l - 1; prefix = q }) nodes 0 refl f ∙ h
+        | true ↦ λ f.
+            let i = below-is a (suc b) c (record { space = s; level = suc l - 1; prefix = q }) f in
+            let k : l ≡ b = let g = i.level_is in omega arith in
+            let d : number_of a (suc b) c nodes ≡ None = rw (← i.space_is, ← k, ← i.prefix_is) e in
+            cc
+      ] refl
+    ] refl
+
+pub path-keeps : (s page l d a b c n : ℕ) (nodes : List (Option Node)) → number_of a (suc b) c nodes ≡ Some n → number_of a (suc b) c (with_path s page l d nodes) ≡ Some n
+path-keeps s page l zero a b c n nodes h = h
+path-keeps s page l (suc d) a b c n nodes h =
+    let e : l + suc d ≡ suc (l + d) = omega arith in
+    path-keeps s page l d a b c n (with_node s (l + suc d) (up (l + suc d) page) nodes) (subst (λ (v : ℕ). number_of a (suc b) c (with_node s v (up v page) nodes) ≡ Some n) (sym e) (node-keeps s (l + d) (up (suc (l + d)) page) a b c n nodes h))
+
+-- After an insertion each cached tag has its node's number yet.
+pub numbered-path : (level s page l d : ℕ) (nodes : List (Option Node)) (cs : List (Cached Item)) → AreNumbered level nodes cs → AreNumbered level (with_path s page l d nodes) cs
+numbered-path level s page l d nodes [] all = all
+numbered-path level s page l d nodes (c ∷ cs) all =
+    (λ i j. path-keeps s page l d (i.tag / 281474976710656) level (i.tag % 281474976710656) i.word nodes (all.0 i j), numbered-path (level + 1) s page l d nodes cs all.1)
 
 -- The nodes that the new leaf lacked leave each tag its number.
 numbered-brought : (top : ℕ) (b : Option Leaf) (nodes : List (Option Node)) (cs : List (Cached Item)) → AreNumbered 0 nodes cs → AreNumbered 0 (with_brought top b nodes) cs

@@ -34,8 +34,8 @@ pub use Rattle.xl_phys.specs.Lines.{counted, IsWord}
 pub use Rattle.xl_pte.specs.Decode.{bit, leaf_at, pointer_at, ppn_of, says, SaysSmall}
 unfoldable pub use Rattle.xl_pte.specs.Decode.{decode_of}
 pub use Rattle.xl_pte.specs.declared.word.Pte.{Pte}
-pub use Rattle.xl_radix.proofs.NumberLemmas.{below-is, below-some, number-some}
-pub use Rattle.xl_radix.proofs.UpLemmas.{up-le}
+pub use Rattle.xl_radix.proofs.SlotLemmas.{below-is, below-some, number-some}
+pub use Rattle.xl_radix.proofs.UpLemmas.{page-low, up-le, up-top}
 pub use Rattle.xl_radix.specs.Steps.{IsMade, shape_of, with_brought}
 pub use Rattle.xl_radix.specs.Table.{Table}
 pub use Rattle.xl_radix.specs.Walk.{end_at, end_of, is_there, place_of, reading, walk_end, WordsReadBack}

@@ -1,6 +1,6 @@
 -- The walk of a page from the root of its space.
-use Rattle.xl_radix_walk.proofs.Common.{◌-◌, ◌<◌, ◌^◌, ◌≡◌, arith, IsPage, number_of, shape_of, Some, subst, suc, sym, Table, up, WordsReadBack, ℕ}
-use Rattle.xl_radix_walk.proofs.RowLemmas.{page-low, root-at}
+use Rattle.xl_radix_walk.proofs.Common.{◌-◌, ◌<◌, ◌^◌, ◌≡◌, arith, IsPage, number_of, page-low, shape_of, Some, subst, suc, sym, Table, up, WordsReadBack, ℕ}
+use Rattle.xl_radix_walk.proofs.RowLemmas.{root-at}
 
 module _ (top space page : ℕ) (t : Table) (back : WordsReadBack top t.spaces t.leaves t.nodes t.words) where
   pub root-number : IsPage (shape_of top t) space page → number_of space (suc (top - 1)) (up (suc (top - 1)) page) t.nodes ≡ Some space

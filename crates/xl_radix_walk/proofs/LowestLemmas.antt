@@ -1,8 +1,8 @@
 -- A look at the cache of level 0 alone, and a walk from there.
-use Rattle.xl_radix_walk.proofs.Common.{◌+◌, ◌-◌, ◌<◌, ◌^◌, ◌||◌, ◌∙◌, ◌∷◌, ◌≡◌, [], ap, arith, Bool, Cached, caches_in, cond, end_level, false, find, has_tag, IfNone, IfSome, is_tag, IsAllowed, IsAllowedWalk, IsLowest, IsPage, IsRow, IsSameWalk, IsStraight, Item, Kind, Leaf, leaf_at_page, length, List, list_any, nat_lt, Node, node_cache_after, node_caches_after, NodeCaches, None, Numbered, one_if, Option, Radix, radix_walk_from, refl, row_of, row_table, shape_of, small_leaf, Some, Start, start_level, subst, suc, sym, Table, tag_at, touched, Touches, true, up, Walked, walked, with_touch, without_first, WordsReadBack, ℕ}
+use Rattle.xl_radix_walk.proofs.Common.{◌+◌, ◌-◌, ◌<◌, ◌^◌, ◌||◌, ◌∙◌, ◌∷◌, ◌≡◌, [], ap, arith, Bool, Cached, caches_in, cond, end_level, false, find, has_tag, IfNone, IfSome, is_tag, IsAllowed, IsAllowedWalk, IsLowest, IsPage, IsRow, IsSameWalk, IsStraight, Item, Kind, Leaf, leaf_at_page, length, List, list_any, nat_lt, Node, node_cache_after, node_caches_after, NodeCaches, None, Numbered, one_if, Option, page-low, Radix, radix_walk_from, refl, row_of, row_table, shape_of, small_leaf, Some, Start, start_level, subst, suc, sym, Table, tag_at, touched, Touches, true, up, Walked, walked, with_touch, without_first, WordsReadBack, ℕ}
 use Rattle.xl_radix_walk.proofs.AboveLemmas.{fills-lowest}
 use Rattle.xl_radix_walk.proofs.LookLemmas.{above-same, hit, start-from, touched-none}
-use Rattle.xl_radix_walk.proofs.RowLemmas.{is-start, IsStart, length-in, page-low, root-at}
+use Rattle.xl_radix_walk.proofs.RowLemmas.{is-start, IsStart, length-in, root-at}
 use Rattle.xl_radix_walk.proofs.WalkedLemmas.{row-from, straight-walked}
 
 -- what a touch does to a list that was touched

@@ -1,14 +1,9 @@
 -- A row at its opening.
-use Rattle.xl_radix_walk.proofs.Common.{◌&&◌, ◌+◌, ◌-◌, ◌<◌, ◌∷◌, ◌≡◌, ◌≤◌, [], ap, AreNumbered, arith, Bool, Cached, caches_in, drop, empty_cache, empty_caches, false, IsRow, Item, length, length-map, List, list_all, map, Node, Numbered, opening_caches, opening_nodes, opening_shape, opening_table, Option, refl, row_of, row_table, slice_index, suc, Table, take, true, zero, ℕ}
+use Rattle.xl_radix_walk.proofs.Common.{◌&&◌, ◌+◌, ◌-◌, ◌<◌, ◌∷◌, ◌≡◌, ◌≤◌, [], ap, AreNumbered, arith, Bool, Cached, caches_in, drop, empty_cache, empty_caches, false, IsRow, Item, length, length-map, List, list_all, map, Node, Numbered, opening_caches, opening_nodes, opening_shape, opening_table, Option, refl, row_of, row_table, suc, Table, take, true, zero, ℕ}
 
 both : (b c : Bool) → (b && c) ≡ true → (b ≡ true) × (c ≡ true)
 both true c h = (refl, h)
 both false c h = cc
-
-pub all-at : (p : ℕ → Bool) (xs : List ℕ) (k : ℕ) → list_all p xs ≡ true → k < length xs → p (slice_index xs k) ≡ true
-all-at p [] k h l = absurd (omega arith)
-all-at p (x ∷ xs) zero h l = (both (p x) (list_all p xs) h).0
-all-at p (x ∷ xs) (suc k) h l = all-at p xs k (both (p x) (list_all p xs) h).1 (omega arith)
 
 pub all-taken : (p : ℕ → Bool) (n : ℕ) (xs : List ℕ) → list_all p xs ≡ true → list_all p (take n xs) ≡ true
 all-taken p zero [] h = refl

@@ -1,5 +1,5 @@
 -- A walk of a row.
-use Rattle.xl_radix_walk.proofs.Common.{◌*◌, ◌+◌, ◌-◌, ◌<◌, ◌^◌, ◌∙◌, ◌∷◌, ◌≡◌, ◌≤◌, [], ap, AreNumbered, arith, Cached, caches_in, end_level, filled_by, IfNone, IfSome, is_some, IsPath, IsRow, Item, Leaf, leaf_at_page, leaf_known, length, List, nat_lt, nat_tests, Node, node_caches_after, None, number_of, Numbered, one_if, Option, plus, refl, row_of, row_table, Some, Start, start_level, start_or, subst, suc, sym, Table, table_walked, up, walk_answer, walk_end, walked, WalkEnd, WordsReadBack, zero, ℕ}
+use Rattle.xl_radix_walk.proofs.Common.{◌*◌, ◌+◌, ◌-◌, ◌<◌, ◌^◌, ◌∙◌, ◌∷◌, ◌≡◌, ◌≤◌, [], ap, AreNumbered, arith, Cached, caches_in, end_level, filled_by, IfNone, IfSome, is_some, IsPath, IsRow, Item, Leaf, leaf_at_page, leaf_known, length, List, nat_lt, nat_tests, Node, node_caches_after, None, number_of, Numbered, one_if, Option, plus, refl, row_of, row_table, Some, Start, start_level, start_or, subst, suc, sym, Table, table_walked, up, up-top, walk_answer, walk_end, walked, WalkEnd, WordsReadBack, ℕ}
 use Rattle.xl_radix_walk.proofs.FillLemmas.{filled, filled-length, numbered-filled}
 
 pub length-in : (level : ℕ) (cs : List (Cached Item)) → length (caches_in level cs) ≡ length cs
@@ -72,9 +72,6 @@ pub record WalkedRow (top space page : ℕ) (t new : Table) (cs after : List (Ca
   pub row : IsRow top (row_of new after)
   pub table : row_table top (row_of new after) ≡ table_walked space page (row_table top (row_of t cs))
 
-with-loads : Table → ℕ → Table
-with-loads t n = record t { loads = n }
-
 pub row-walked : (top space page : ℕ) (t new : Table) (cs looked after : List (Cached Item)) (found : Option Start) (from : Start) (e : WalkEnd) (path : List ℕ) → WordsReadBack top t.spaces t.leaves t.nodes t.words → page < 2 ^ 45 → IsRow top (row_of t cs) → IsStart top space page t.nodes cs found → from ≡ start_or top space found →
     caches_in 0 looked ≡ node_caches_after 0 (start_level 0 space page (caches_in 0 cs)) None space page [] (caches_in 0 cs) → length looked ≡ length cs → AreNumbered 0 t.nodes looked →
     e ≡ walk_end (leaf_at_page space page t.leaves) (end_level (top - 1) 0 space page t.leaves) → IsPath (end_level (top - 1) 0 space page t.leaves) from.level space page path t.nodes →
@@ -95,24 +92,6 @@ pub row-answer : (top space page : ℕ) (t : Table) (cs : List (Cached Item)) (f
     → record { leaf = r; cache_hits = one_if (is_some found) } ≡ walk_answer space page (row_table top (row_of t cs))
 unfolding walk_answer walked
 row-answer top space page t cs found r s f = rw (f, s.hits) refl
-
-pub page-low : (n page : ℕ) → n ≤ 5 → page < 2 ^ (9 * n) → page < 2 ^ 45
-page-low zero page h low = omega arith
-page-low (suc zero) page h low = omega arith
-page-low (suc (suc zero)) page h low = omega arith
-page-low (suc (suc (suc zero))) page h low = omega arith
-page-low (suc (suc (suc (suc zero)))) page h low = omega arith
-page-low (suc (suc (suc (suc (suc zero))))) page h low = omega arith
-page-low (suc (suc (suc (suc (suc (suc n)))))) page h low = absurd (omega arith)
-
-pub up-top : (n page : ℕ) → n ≤ 5 → page < 2 ^ (9 * n) → up n page ≡ 0
-up-top zero page h low = omega arith
-up-top (suc zero) page h low = omega arith
-up-top (suc (suc zero)) page h low = omega arith
-up-top (suc (suc (suc zero))) page h low = omega arith
-up-top (suc (suc (suc (suc zero)))) page h low = omega arith
-up-top (suc (suc (suc (suc (suc zero))))) page h low = omega arith
-up-top (suc (suc (suc (suc (suc (suc n)))))) page h low = absurd (omega arith)
 
 pub root-at : (top spaces space page : ℕ) (leaves : List Leaf) (nodes : List (Option Node)) (words : List ℕ) → WordsReadBack top spaces leaves nodes words → top ≤ 5 → page < 2 ^ (9 * top) → space < spaces
     → number_of space top (up top page) nodes ≡ Some space

@@ -102,9 +102,8 @@ unfolding radix_back radix_path
 on words zero node page next above small e p = absurd (omega arith)
 on words (suc level) node page next above small e p =
     let same : suc level - 1 ≡ level = omega arith in
-    let P : ℕ → Type 0 = λ l. radix_back words (suc level) node page ≡ radix_back words l next page in
     let Q : ℕ → Type 0 = λ l. radix_path words (suc level) node page ≡ next ∷ radix_path words l next page in
-    record { above = above; end = subst P (sym same) e; path = subst Q (sym same) p; small = small }
+    record { above = above; end = subst (λ (l : ℕ). radix_back words (suc level) node page ≡ radix_back words l next page) (sym same) e; path = subst Q (sym same) p; small = small }
 
 by-word : (words : List ℕ) (level node page : ℕ) (o : Option Pte) → word_in words level node page ≡ o → IsStep words level node page (step_of o level)
 unfolding back_by path_by Points

@@ -1,8 +1,8 @@
 -- A walk of a row from one of a page's nodes.
-use Rattle.xl_radix_walk.proofs.Common.{◌%◌, ◌*◌, ◌+◌, ◌-◌, ◌/◌, ◌<◌, ◌^◌, ◌∙◌, ◌≡◌, ◌≤◌, [], ap, AreNumbered, AreOff, arith, Cached, caches_in, end_level, Enters, false, filled_by, filled_caches, FillsNone, Finds, get_or-take, IfSome, is_some, IsAllowed, IsAllowedWalk, IsPage, IsPath, IsRow, IsStraight, IsWalk, IsWalked, Item, Kind, Leaf, leaf_at_page, leaf_known, length, level_of, List, node_caches_after, None, number_of, one_if, Option, perm_at, plus, radix_path, refl, row_of, row_table, shape_of, slice_index, small_leaf, Some, Start, start_level, start_or, subst, suc, sym, Table, take, up, walk_end, WordsReadBack, ℕ}
+use Rattle.xl_radix_walk.proofs.Common.{◌%◌, ◌*◌, ◌+◌, ◌-◌, ◌/◌, ◌<◌, ◌^◌, ◌∙◌, ◌≡◌, ◌≤◌, [], ap, AreNumbered, AreOff, arith, Cached, caches_in, end_level, Enters, false, filled_by, filled_caches, FillsNone, Finds, get_or-take, IfSome, is_some, IsAllowed, IsAllowedWalk, IsPage, IsPath, IsRow, IsStraight, IsWalk, IsWalked, Item, Kind, Leaf, leaf_at_page, leaf_known, length, level_of, List, node_caches_after, None, number_of, one_if, Option, page-low, perm_at, plus, radix_path, refl, row_of, row_table, shape_of, slice_index, small_leaf, Some, Start, start_level, start_or, subst, suc, sym, Table, take, up, walk_end, WordsReadBack, ℕ}
 use Rattle.xl_radix_walk.proofs.AboveLemmas.{are-filled, are-looked}
 use Rattle.xl_radix_walk.proofs.DescentLemmas.{walk-path}
-use Rattle.xl_radix_walk.proofs.RowLemmas.{is-start, IsStart, leaf-known, page-low, root-at, row-answer, row-walked, WalkedRow}
+use Rattle.xl_radix_walk.proofs.RowLemmas.{is-start, IsStart, leaf-known, root-at, row-answer, row-walked, WalkedRow}
 use Rattle.xl_model.specs.declared.address.Order.TheVariants as order
 
 pub straight-found : (top start node space page word : ℕ) (t new : Table) → WordsReadBack top t.spaces t.leaves t.nodes t.words → number_of space (suc start) (up (suc start) page) t.nodes ≡ Some node

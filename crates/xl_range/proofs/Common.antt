@@ -1,10 +1,9 @@
 -- The names that this crate's proofs import from elsewhere, passed on from one place. Declares nothing.
-pub use Rattle.std.proofs.Common.{◌%◌, ◌&&◌, ◌*◌, ◌+◌, ◌-◌, ◌/◌, ◌<◌, ◌==◌, ◌^◌, ◌||◌, ◌∙◌, ◌∷◌, ◌≡◌, ◌≤◌, ◌⊎◌, [], ap, arith, Bool, cond, Err, false, filter, find, inl, inr, is_some, length, List, nat_le, nat_lt, None, Ok, Option, refl, Result, Some, subst, suc, sym, true, zero, ℕ}
+pub use Rattle.std.proofs.Common.{◌%◌, ◌&&◌, ◌*◌, ◌+◌, ◌-◌, ◌/◌, ◌<◌, ◌==◌, ◌^◌, ◌||◌, ◌∙◌, ◌∷◌, ◌≡◌, ◌≤◌, ◌⊎◌, [], ap, arith, Bool, cond, Err, false, filter, find, inl, inr, is_some, length, List, nat_le, nat_lt, None, Ok, Option, refl, Result, rules, Some, subst, suc, sym, true, zero, ℕ}
 pub use Rattle.std.proofs.lemmas.Bool.Decides.{nat_tests}
 pub use Rattle.std.specs.List.{list_any}
-pub use Rattle.xl_list_lemmas.proofs.MemberLemmas.{find-In, find-passes, In-any}
+pub use Rattle.xl_list_lemmas.proofs.MemberLemmas.{any-find, find-In, find-passes, In-any, both as same-bools, same-tests}
 pub use Rattle.xl_list_lemmas.proofs.RecencyLemmas.{newest-In, purged-In, touched-In, touched-none}
-pub use Rattle.xl_list_lemmas.proofs.SameLemmas.{any-find, both as same-bools, same-tests}
 pub use Rattle.xl_list_lemmas.specs.Members.{In}
 pub use Rattle.xl_model.specs.Addresses.{pages_of, same_order}
 pub use Rattle.xl_model.specs.Caches.{Cached, empty_cache, entries_in, holds_first, RangeCache, reaches_range, without_items}
@@ -27,8 +26,7 @@ pub use Rattle.xl_model.specs.declared.leaf.Leaf.{Leaf}
 pub use Rattle.xl_model.specs.declared.leaf.Range.{Range}
 pub use Rattle.xl_model.specs.declared.perm.Perm.{Perm}
 pub use Rattle.xl_model_lemmas.proofs.MappingLemmas.{named-In, named-is}
-pub use Rattle.xl_model_lemmas.proofs.OrderLemmas.{order-same, orders-same, pages-some}
-pub use Rattle.xl_model_lemmas.proofs.PlaceLemmas.{named-first, named-order, named-space}
+pub use Rattle.xl_model_lemmas.proofs.PlaceLemmas.{named-first, named-order, named-space, order-same, orders-same, pages-some}
 pub use Rattle.xl_treap.proofs.KeptLemmas.{resized-length, with-length}
 pub use Rattle.xl_treap.specs.Treaps.{first_from, has_key, IsApart, IsFit, keeping, key_at, last_below, last_or, of_space, resized, TreapView, with_range, without_range}
 pub use Rattle.xl_range.specs.Cuts.{IsInside, kept_cut, kept_following}

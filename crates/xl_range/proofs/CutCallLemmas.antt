@@ -3,9 +3,8 @@ use Rattle.xl_range.proofs.Common.{◌+◌, ◌-◌, ◌<◌, ◌==◌, ◌∙�
 use Rattle.xl_range.proofs.CutCountLemmas.{cut-count}
 use Rattle.xl_range.proofs.CutLemmas.{head-cut, held-cut, next-cut, own-key}
 use Rattle.xl_range.proofs.HoldLemmas.{apart-held, apart-resized, fit-range, key-there, with-front}
-use Rattle.xl_range.proofs.JoinLemmas.{In-key, In-range}
 use Rattle.xl_range.proofs.LeafInLemmas.{Sizes, sizes}
-use Rattle.xl_range.proofs.TouchLemmas.{some-pages}
+use Rattle.xl_range.proofs.TouchLemmas.{In-key, In-range, some-pages}
 
 following-cons : (n : ℕ) (x r : Range) (rs : List Range) → range_key r < range_key x → kept_following n x (r ∷ rs) ≡ r ∷ kept_following n x rs
 following-cons zero x r rs less = refl
@@ -28,33 +27,9 @@ cut-front (suc n) m low r x rs h le less =
     let cons : kept_following m x (record r { pages = suc n } ∷ rs) ≡ record r { pages = suc n } ∷ kept_following m x rs = following-cons m x (record r { pages = suc n }) rs less in
     rw (own-key r) (cons ∙ ap (λ (ys : List Range). record r { pages = suc n } ∷ ys) (following-front m low x rs h le))
 
-pub cut-none : (n k : ℕ) (rs : List Range) → n ≡ 0 → kept_cut n k rs ≡ without_range k rs
-cut-none zero k rs e = refl
-cut-none (suc n) k rs e = absurd (omega arith)
-
-pub cut-some : (n k : ℕ) (rs : List Range) → 0 < n → kept_cut n k rs ≡ resized k n rs
-cut-some zero k rs e = absurd (omega arith)
-cut-some (suc n) k rs e = refl
-
-pub following-none : (n : ℕ) (x : Range) (rs : List Range) → n ≡ 0 → kept_following n x rs ≡ rs
-following-none zero x rs e = refl
-following-none (suc n) x rs e = absurd (omega arith)
-
-pub following-some : (n : ℕ) (x : Range) (rs : List Range) → 0 < n → kept_following n x rs ≡ with_range x rs
-following-some zero x rs e = absurd (omega arith)
-following-some (suc n) x rs e = refl
-
 pub following-room : (n : ℕ) (x : Range) (rs : List Range) (nodes : ℕ) → 0 < n → length (kept_following n x rs) ≤ nodes → length rs ≡ nodes → ⊥
 following-room zero x rs nodes some h full = absurd (omega arith)
 following-room (suc n) x rs nodes some h full = let a : length (with_range x rs) ≡ suc (length rs) = with-length x rs in omega arith
-
-pub some-none : (n : ℕ) → n ≡ 0 → some_if n ≡ 0
-some-none zero e = refl
-some-none (suc n) e = absurd (omega arith)
-
-pub some-some : (n : ℕ) → 0 < n → some_if n ≡ 1
-some-some zero e = absurd (omega arith)
-some-some (suc n) e = refl
 
 -- The calls make the cut list.
 pub cut-calls : (space first : ℕ) (o : Order) (low : ℕ) (r : Range) (rs : List Range) (i : IsLeafIn space first o r) → IsHeld low rs → In r rs
@@ -65,8 +40,7 @@ cut-calls space first o low r (y ∷ rs) i (above, is, stops, rest) (inl e) =
     let from = s.from in
     let to = s.to in
     let some = s.some in
-    let K : Range → Type 0 = λ z. IsHeld (end_key z) rs in
-    let held : IsHeld (end_key r) rs = subst K (sym e) rest in
+    let held : IsHeld (end_key r) rs = subst (λ (z : Range). IsHeld (end_key z) rs) (sym e) rest in
     let F : Range → Type 0 = λ z. kept_following (pages_following first o r) (part_following first o r) (kept_cut (pages_before first r) (range_key r) (z ∷ rs)) ≡ cut first o r (z ∷ rs) in
     subst F e (cut-front (pages_before first r) (pages_following first o r) (end_key r) r (part_following first o r) rs held (omega arith) (omega arith) ∙ sym (head-cut first o r rs))
 cut-calls space first o low r (y ∷ rs) i (above, is, stops, rest) (inr m) =

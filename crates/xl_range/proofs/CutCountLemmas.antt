@@ -1,5 +1,5 @@
 -- For the table of ranges: how many ranges are left where a leaf is cut out of one, and where a range is put among them.
-use Rattle.xl_range.proofs.Common.{◌+◌, ◌==◌, ◌∷◌, ◌≡◌, ◌≤◌, [], ap, arith, before_on, cond, cut, false, following_on, glue, grown, In, inl, inr, join, length, List, nat_lt, nat_tests, Order, pages_before, pages_following, part_following, pieces, Range, range_key, refl, some_if, suc, touches, true, zero, ℕ}
+use Rattle.xl_range.proofs.Common.{◌+◌, ◌==◌, ◌∷◌, ◌≡◌, ◌≤◌, [], ap, arith, before_on, cond, cut, false, following_on, In, inl, inr, length, List, nat_tests, Order, pages_before, pages_following, part_following, pieces, Range, range_key, refl, some_if, suc, true, zero, ℕ}
 
 pieces-count : (n m : ℕ) (r x : Range) (rs : List Range) → length (before_on n r (following_on m x rs)) ≡ length rs + (some_if n + some_if m)
 pieces-count zero zero r x rs = omega arith
@@ -24,20 +24,3 @@ cut-count first o r (y ∷ rs) i =
         | inr m ↦ (let a = cut-count first o r rs m in omega arith)
       ]
     ] refl
-
-glue-count : (x : Range) (rs : List Range) → length (glue x rs) ≤ suc (length rs)
-glue-count x [] = omega arith
-glue-count x (q ∷ qs) = elim (touches x q) as (λ b. length (cond b (grown x q ∷ qs) (x ∷ q ∷ qs)) ≤ suc (suc (length qs))) [ true ↦ omega arith | false ↦ omega arith ]
-
--- A range put among them makes one more at most.
-pub join-count : (x : Range) (rs : List Range) → length (join x rs) ≤ suc (length rs)
-unfolding join
-join-count x [] = omega arith
-join-count x (r ∷ rs) =
-    elim (nat_lt (range_key r) (range_key x)) as (λ b. length (cond b (cond (touches r x) (glue (grown r x) rs) (r ∷ join x rs)) (glue x (r ∷ rs))) ≤ suc (suc (length rs))) [
-      | true ↦ elim (touches r x) as (λ b. length (cond b (glue (grown r x) rs) (r ∷ join x rs)) ≤ suc (suc (length rs))) [
-        | true ↦ (let a = glue-count (grown r x) rs in omega arith)
-        | false ↦ (let a = join-count x rs in omega arith)
-      ]
-      | false ↦ glue-count x (r ∷ rs)
-    ]

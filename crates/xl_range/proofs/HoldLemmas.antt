@@ -1,7 +1,6 @@
 -- What a treap can hold: maximal ranges lie apart; how many ranges its calls leave; the held keys.
 use Rattle.xl_range.proofs.Common.{◌+◌, ◌<◌, ◌==◌, ◌||◌, ◌∷◌, ◌≡◌, ◌≤◌, [], ap, arith, Bool, cond, end_key, false, has_key, In, inl, inr, IsApart, IsFit, IsHeld, IsRange, length, List, list_any, nat_lt, nat_tests, Range, range_key, refl, resized, subst, suc, true, with_range, without_range, ℕ}
-use Rattle.xl_range.proofs.JoinLemmas.{In-key, lower}
-use Rattle.xl_range.proofs.TouchLemmas.{some-pages}
+use Rattle.xl_range.proofs.TouchLemmas.{In-key, lower, some-pages}
 
 pub fit-range : (r : Range) → IsRange r → IsFit r
 fit-range r is = record { some = some-pages r is; space_in = is.space_in; pages_in = is.pages_in; frames_in = is.frames_in }

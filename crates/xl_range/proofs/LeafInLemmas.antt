@@ -101,7 +101,6 @@ next-of-leap space first o r i =
 pub leap-key : (space first : ℕ) (o : Order) (r : Range) (i : IsLeafIn space first o r) → leaf_key (leap i.before (first_leaf r)) ≡ space * 2 ^ 52 + first
 unfolding leap
 leap-key space first o r i =
-    let P : Order → Type 0 = λ q. r.space * 2 ^ 52 + (r.start + i.before * pages_of q) ≡ space * 2 ^ 52 + first in
     let a : first ≡ r.start + i.before * pages_of o = i.at in
     let b : r.space ≡ space = i.space_same in
-    subst P (sym i.order_same) (omega arith)
+    subst (λ (q : Order). r.space * 2 ^ 52 + (r.start + i.before * pages_of q) ≡ space * 2 ^ 52 + first) (sym i.order_same) (omega arith)

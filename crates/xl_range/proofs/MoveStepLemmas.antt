@@ -36,10 +36,9 @@ protect-done space first o perm n t cutt new r l whole k ec el test en =
     let is : changed (Protect space first o perm) (spread t.kept) ≡ with_leaf (record l { perm = perm }) (spread cutt.kept) =
     given-leaves space first o perm t r l whole.held k el ∙ ap (λ (rs : List Range). with_leaf (record l { perm = perm }) (spread rs)) (sym (kept-is t cutt (cut first o r t.kept) ec)) in
     let all : new ≡ keeping t (join x cutt.kept) = en ∙ ap (λ (v : TreapView). keeping v (join x cutt.kept)) ec in
-    let L : List Leaf → Type 0 = λ xs. HasRanges xs t new in
     record {
       room = test ∙ ap (λ (xs : List Range). nat_le (length xs) n) (sym a.ranges) ∙ ap (λ (xs : List Leaf). nat_le (length (ranges_of xs)) n) (sym is) ∙ sym (protect-room space first o perm (spread t.kept) n);
-      made = λ e. subst L (sym is) (has-ranges t new (join x cutt.kept) (with_leaf (record l { perm = perm }) (spread cutt.kept)) all a);
+      made = λ e. subst (λ (xs : List Leaf). HasRanges xs t new) (sym is) (has-ranges t new (join x cutt.kept) (with_leaf (record l { perm = perm }) (spread cutt.kept)) all a);
       same = λ f. absurd (cc);
     }
 
@@ -104,7 +103,6 @@ moving space first to o n t r l whole k is block free =
     let that : IsThat space first o l = is-that space first o l (spread t.kept) named in
     let p : CanPutLeaf n (keeping t (cut first o r t.kept)) (record l { perm = l.perm }) = cut-can space first o n t (keeping t (cut first o r t.kept)) r l.perm l whole k refl is in
     let low = block.pages_in in
-    let A : Order → Type 0 = λ q. (e : ℕ) × (to ≡ e * pages_of q) in
     let M : ℕ → Type 0 = λ s. meets_any s to o (spread t.kept) ≡ false in
     let O : Order → Type 0 = λ q. meets_any l.space to q (spread t.kept) ≡ false in
     let S : ℕ → Type 0 = λ s. s < 64 in
@@ -121,7 +119,7 @@ moving space first to o n t r l whole k is block free =
         space_in = p.range.space_in;
         pages_in = omega arith;
         frames_in = p.range.frames_in;
-        aligned = subst A (sym that.order_same) block.aligned;
+        aligned = subst (λ (q : Order). (e : ℕ) × (to ≡ e * pages_of q)) (sym that.order_same) block.aligned;
       };
       clear = clear-any (record l { first = to }) t.kept whole.held (omega arith) (subst O (sym that.order_same) (subst M (sym that.space_same) free));
     }
@@ -139,7 +137,6 @@ has-both space first to o n t between new m e =
     let h : HasRanges (with_leaf new (spread t.kept)) t between = has-ranges t between (join (range_of_leaf new) t.kept) (with_leaf new (spread t.kept)) e a in
     let keys : (z : Leaf) → In z (spread t.kept) → leaf_key z ≡ leaf_key new → ⊥ = λ z i. clear-key new z t.kept m.whole.held m.clear i in
     let still : leaf_named space first o (with_leaf new (spread t.kept)) ≡ Some m.old = still-named space first o new (spread t.kept) (λ f. m.other (sym m.that.first_same ∙ f)) keys ∙ m.named in
-    let N : List Leaf → Type 0 = λ xs. IsNamed space to o xs in
     let S : ℕ → Type 0 = λ s. IsNamed s to o (with_leaf new (spread t.kept)) in
     let F : ℕ → Type 0 = λ f. IsNamed new.space f o (with_leaf new (spread t.kept)) in
     let O : Order → Type 0 = λ q. IsNamed new.space new.first q (with_leaf new (spread t.kept)) in
@@ -147,7 +144,7 @@ has-both space first to o n t between new m e =
       held = h.held;
       leaves = h.leaves;
       old_named = ap (λ (xs : List Leaf). is_some (leaf_named space first o xs)) h.leaves ∙ ap is_some still;
-      new_named = subst N (sym h.leaves) (subst S m.that.space_same (subst F m.that.first_same (subst O m.that.order_same (new-named new (spread t.kept)))));
+      new_named = subst (λ (xs : List Leaf). IsNamed space to o xs) (sym h.leaves) (subst S m.that.space_same (subst F m.that.first_same (subst O m.that.order_same (new-named new (spread t.kept)))));
     }
 
 first-low : (space first : ℕ) (o : Order) (x : Leaf) (rs : List Range) → IsHeld 0 rs → leaf_named space first o (spread rs) ≡ Some x → first < 2 ^ 52

@@ -33,9 +33,8 @@ first-next low k (r ∷ rs) q (above, is, stops, rest) e =
           record { low_in = (let a = n.low_in in omega arith); from = n.from; range = n.range; there = or-second (has_key (range_key q) r) (list_any (has_key (range_key q)) rs) n.there }
       | false ↦ λ t f.
           let same : r ≡ q = cc in
-          let P : Range → Type 0 = λ z. IsNext low k z (r ∷ rs) in
           let own : has_key (range_key r) r ≡ true = grind (arith, nat_tests) in
-          subst P same (record { low_in = above; from = grind (arith, nat_tests); range = is; there = rw own refl })
+          subst (λ (z : Range). IsNext low k z (r ∷ rs)) same (record { low_in = above; from = grind (arith, nat_tests); range = is; there = rw own refl })
     ] refl e
   where
     or-second : (a b : Bool) → b ≡ true → (a || b) ≡ true
@@ -66,9 +65,8 @@ last-prev low k (r ∷ rs) p (above, is, stops, rest) e =
     go : (o : Option Range) → last_below k rs ≡ o → last_or r (last_below k rs) ≡ p → range_key r < k → ((z : Range) → last_below k rs ≡ Some z → IsPrev (end_key r) k z rs) → IsPrev low k p (r ∷ rs)
     go None o f less more =
         let same : r ≡ p = rw o at f in
-        let P : Range → Type 0 = λ z. IsPrev low k z (r ∷ rs) in
         let own : has_key (range_key r) r ≡ true = grind (arith, nat_tests) in
-        subst P same (record { low_in = above; below = less; range = is; there = rw own refl })
+        subst (λ (z : Range). IsPrev low k z (r ∷ rs)) same (record { low_in = above; below = less; range = is; there = rw own refl })
     go (Some z) o f less more =
         let same : z ≡ p = rw o at f in
         let P : Range → Type 0 = λ w. IsPrev low k w (r ∷ rs) in
@@ -85,15 +83,6 @@ next-there x rs h = by-option (λ o. IsThere (next_where (of_space x.space o) x)
     go : (q : Range) → list_any (has_key (range_key q)) rs ≡ true → IsThere (next_where (of_space x.space (Some q)) x) rs
     go q t = elim (q.space == x.space) as (λ b. IsThere (next_where (cond b (Some q) None) x) rs) [
       | true ↦ elim (touches x q) as (λ b. IsThere (cond b (Some q) None) rs) [ true ↦ t | false ↦ tt ]
-      | false ↦ tt
-    ]
-
-pub prev-there : (x : Range) (rs : List Range) → IsHeld 0 rs → IsThere (prev_of x rs) rs
-prev-there x rs h = by-option (λ o. IsThere (prev_where (of_space x.space o) x) rs) (last_below (range_key x) rs) (λ e. tt) (λ q e. go q (last-prev 0 (range_key x) rs q h e).there)
-  where
-    go : (q : Range) → list_any (has_key (range_key q)) rs ≡ true → IsThere (prev_where (of_space x.space (Some q)) x) rs
-    go q t = elim (q.space == x.space) as (λ b. IsThere (prev_where (cond b (Some q) None) x) rs) [
-      | true ↦ elim (touches q x) as (λ b. IsThere (cond b (Some q) None) rs) [ true ↦ t | false ↦ tt ]
       | false ↦ tt
     ]
 

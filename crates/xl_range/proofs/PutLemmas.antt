@@ -2,9 +2,8 @@
 use Rattle.xl_range.proofs.Common.{◌+◌, ◌<◌, ◌==◌, ◌∙◌, ◌∷◌, ◌≡◌, ◌≤◌, [], ap, arith, Bool, cond, end_key, false, first_from, glue, grown, inl, inr, IsApart, IsClear, IsHeld, IsRange, IsThere, join, kept_put, kept_taken, last_below, last_or, length, List, nat_le, nat_lt, nat_tests, next_of, next_where, None, of_space, one_if, Option, prev_of, prev_where, put_by, Range, range_key, range_taken, refl, resized, resized-length, Some, subst, suc, sym, touches, true, with-length, with_range, without_range, ℕ}
 use Rattle.xl_range.proofs.CutLemmas.{own-key}
 use Rattle.xl_range.proofs.HoldLemmas.{apart-held, length-without, with-front}
-use Rattle.xl_range.proofs.JoinLemmas.{held-following, held-join}
 use Rattle.xl_range.proofs.NeighbourLemmas.{by-option, can-put, CanPut, first-next, IsNext, IsPrev, last-prev, next-space, next-there, prev-space}
-use Rattle.xl_range.proofs.TouchLemmas.{grown-touches, not-touching, some-pages, Touch, touch, touch-key}
+use Rattle.xl_range.proofs.TouchLemmas.{grown-touches, held-following, held-join, not-touching, some-pages, Touch, touch, touch-key}
 
 -- neighbours after a first range
 pub Past : Range → Option Range → Type 0
@@ -149,18 +148,15 @@ pub record IsReady (x : Range) (rs : List Range) (y : Range) (next prev : Option
 pub ready : (x : Range) (rs : List Range) (y : Range) (next prev : Option Range) → IsHeld 0 rs → IsRange x → IsClear x rs
     → y ≡ x → next ≡ next_of y rs → prev ≡ prev_of y rs → IsReady x rs y next prev
 ready x rs y next prev h is clear ex en ep =
-    let R : Range → Type 0 = λ z. IsRange z in
     let all : put_by next prev y rs ≡ put_by (next_of x rs) (prev_of x rs) x rs =
     ap (λ (m : Option Range). put_by m prev y rs) en ∙ ap (λ (p : Option Range). put_by (next_of y rs) p y rs) ep ∙ ap (λ (z : Range). put_by (next_of z rs) (prev_of z rs) z rs) ex in
     let same : put_by next prev y rs ≡ join x rs = all ∙ put-join 0 x rs h is clear in
-    let H : List Range → Type 0 = λ ys. IsApart 0 ys in
-    let N : List Range → Type 0 = λ ys. length ys + (one_if next + one_if prev) ≡ suc (length rs) in
     let there : IsThere next rs = (let T : Option Range → Type 0 = λ o. IsThere o rs in subst T (sym en) (next-there y rs h)) in
     record {
-      can = can-put y rs next prev h (subst R (sym ex) is) en ep;
+      can = can-put y rs next prev h (subst (λ (z : Range). IsRange z) (sym ex) is) en ep;
       same = same;
-      apart = subst H (sym same) (apart-held 0 (join x rs) (held-join 0 x rs h (omega arith) is clear));
-      count = subst N same (put-length next prev y rs there);
+      apart = subst (λ (ys : List Range). IsApart 0 ys) (sym same) (apart-held 0 (join x rs) (held-join 0 x rs h (omega arith) is clear));
+      count = subst (λ (ys : List Range). length ys + (one_if next + one_if prev) ≡ suc (length rs)) same (put-length next prev y rs there);
     }
 
 -- the same, of the ranges that are found beside the place

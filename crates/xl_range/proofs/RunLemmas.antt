@@ -19,17 +19,14 @@ stops-next n l (q ∷ qs) h =
     let p : ℕ = pages_of l.order in
     let a : l.first + suc (suc n) * p ≡ l.first + p + suc n * p = omega arith in
     let b : l.frame + suc (suc n) * p ≡ l.frame + p + suc n * p = omega arith in
-    let P : ℕ → Type 0 = λ x. begins l x (l.frame + suc (suc n) * p) q ≡ false in
-    let Q : ℕ → Type 0 = λ x. begins l (l.first + p + suc n * p) x q ≡ false in
-    subst Q b (subst P a h)
+    subst (λ (x : ℕ). begins l (l.first + p + suc n * p) x q ≡ false) b (subst (λ (x : ℕ). begins l x (l.frame + suc (suc n) * p) q ≡ false) a h)
 
 joined-stops : (l : Leaf) (rs : List Range) → Stops (range_from 1 l) rs → joined l rs ≡ range_from 1 l ∷ rs
 joined-stops l [] h = ap (λ (k : ℕ). record (range_of_leaf l) { pages = k } ∷ []) (omega arith)
 joined-stops l (q ∷ qs) h =
     let p : ℕ = pages_of l.order in
     let one : 1 * p ≡ p = omega arith in
-    let P : ℕ → Type 0 = λ k. begins l (l.first + k) (l.frame + k) q ≡ false in
-    let no : goes_into l q ≡ false = subst P one h in
+    let no : goes_into l q ≡ false = subst (λ (k : ℕ). begins l (l.first + k) (l.frame + k) q ≡ false) one h in
     rw no (ap (λ (k : ℕ). record (range_of_leaf l) { pages = k } ∷ q ∷ qs) (sym one))
 
 pub ranges-run : (n : ℕ) (l : Leaf) (rest : List Leaf) (rs : List Range) → ranges_of rest ≡ rs → Stops (range_from (suc n) l) rs
@@ -61,7 +58,6 @@ ranges-spread low (r ∷ rs) (above, is, stops, rest) =
     let tail : ranges_of (spread rs) ≡ rs = ranges-spread (end_key r) rs rest in
     let n : ℕ = is.leaves.0 in
     let same : range_from (suc n) (first_leaf r) ≡ r = range-is r (suc n) is.leaves.1 in
-    let P : Range → Type 0 = λ x. Stops x rs in
     let all : ranges_of (run_on (suc n) (first_leaf r) (spread rs)) ≡ range_from (suc n) (first_leaf r) ∷ rs =
-    ranges-run n (first_leaf r) (spread rs) rs tail (subst P (sym same) stops) in
+    ranges-run n (first_leaf r) (spread rs) rs tail (subst (λ (x : Range). Stops x rs) (sym same) stops) in
     rw (leaves-is r is) (all ∙ ap (λ (x : Range). x ∷ rs) same)

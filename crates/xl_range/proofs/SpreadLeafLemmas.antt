@@ -2,8 +2,8 @@
 -- what is clear of the ranges.
 use Rattle.xl_range.proofs.Common.{◌*◌, ◌+◌, ◌<◌, ◌∷◌, ◌≡◌, ◌≤◌, ◌⊎◌, [], arith, covers, end_key, false, first_leaf, In, inl, inr, IsClear, IsHeld, Leaf, leaf_key, List, nat_tests, next_leaf, pages-some, pages_of, Range, range_key, range_leaves, range_of_leaf, refl, run_on, spread, subst, suc, sym, true, zero, ℕ}
 use Rattle.xl_model_lemmas.specs.Sorted.{AllAbove, IsSorted}
-use Rattle.xl_range.proofs.JoinLemmas.{In-key}
 use Rattle.xl_range.proofs.RunLemmas.{leaves-is}
+use Rattle.xl_range.proofs.TouchLemmas.{In-key}
 
 -- A leaf is within these keys, in this space.
 pub record IsPlacedIn (space low high : ℕ) (z : Leaf) : Type 0 where
@@ -15,8 +15,7 @@ run-In : (n : ℕ) (l z : Leaf) (rest : List Leaf) → In z (run_on n l rest) �
 run-In zero l z rest i = inr i
 run-In (suc n) l z rest (inl e) =
     let p : ℕ = pages_of l.order in
-    let P : Leaf → Type 0 = λ y. IsPlacedIn l.space (leaf_key l) (leaf_key l + suc n * p) y in
-    inl (subst P (sym e) (record { space_same = refl; from = omega arith; to = omega arith }))
+    inl (subst (λ (y : Leaf). IsPlacedIn l.space (leaf_key l) (leaf_key l + suc n * p) y) (sym e) (record { space_same = refl; from = omega arith; to = omega arith }))
 run-In (suc n) l z rest (inr i) =
     let p : ℕ = pages_of l.order in
     elim (run-In n (next_leaf l) z rest i) [
@@ -40,8 +39,7 @@ spread-In low (r ∷ rs) z (above, is, stops, rest) i =
     let p : ℕ = pages_of r.order in
     let count : range_leaves r ≡ suc is.leaves.0 = leaves-is r is in
     let pages : r.pages ≡ suc is.leaves.0 * p = is.leaves.1 in
-    let F : ℕ → Type 0 = λ n. In z (run_on n (first_leaf r) (spread rs)) in
-    elim (run-In (suc is.leaves.0) (first_leaf r) z (spread rs) (subst F count i)) [
+    elim (run-In (suc is.leaves.0) (first_leaf r) z (spread rs) (subst (λ (n : ℕ). In z (run_on n (first_leaf r) (spread rs))) count i)) [
       | inl s ↦
           let from = s.from in
           let to = s.to in

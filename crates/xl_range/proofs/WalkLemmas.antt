@@ -7,8 +7,8 @@ use Rattle.xl_model.specs.declared.work.Walk.{Walk}
 use Rattle.xl_tlb.specs.RangeCoding.{IsKeepable}
 use Rattle.xl_range.proofs.FindLemmas.{at-page, held-fresh, leaf-found}
 use Rattle.xl_range.proofs.HoldLemmas.{fit-range}
-use Rattle.xl_range.proofs.JoinLemmas.{In-range}
 use Rattle.xl_range.proofs.RunLemmas.{ranges-spread}
+use Rattle.xl_range.proofs.TouchLemmas.{In-range}
 
 -- A walk of the row: what it keeps, returns and leaves.
 pub record IsRowWalk (space page n : ℕ) (t new : TreapView) (k left : Cached Range) (result : Walk) : Type 0 where
@@ -63,9 +63,8 @@ hit-after n space page t k r row e =
 pub hit-walk : (n space page : ℕ) (t : TreapView) (k left : Cached Range) (r : Range) (l : Leaf) → IsRow n t k → Some r ≡ find (holds_page space page) k.items → left ≡ with_touch (holds_page space page) k
     → l ≡ leaf_in page r → IsRowWalk space page n t t k left (record { leaf = Some l; cache_hits = 1 })
 hit-walk n space page t k left r l row e is leaf =
-    let R : Cached Range → Type 0 = λ x. IsRow n t x in
     record {
-      row = subst R (sym is) (touched-row n t k (holds_page space page) row);
+      row = subst (λ (x : Cached Range). IsRow n t x) (sym is) (touched-row n t k (holds_page space page) row);
       walks = record {
         answer = ap (λ (x : Leaf). let w : Walk = record { leaf = Some x; cache_hits = 1 } in w) leaf ∙ hit-answer n space page t k r row e;
         after = ap (row_of n t) is ∙ hit-after n space page t k r row e;
@@ -106,11 +105,9 @@ miss-walk n space page t new k looked left o row none look s is =
     let same : looked ≡ k = touched-same looked k (holds_page space page) none look in
     let all : left ≡ with_range o k = is ∙ ap (with_range o) same in
     let after : TreapView = record t { loads = plus t.loads (range_reads t.kept space page) } in
-    let R : Cached Range → Type 0 = λ x. IsRow n new x in
-    let T : TreapView → Type 0 = λ v. IsRow n v (with_range o k) in
     let walked_row : IsRow n after k = record { whole = walked-table n (range_reads t.kept space page) t row.whole; fresh = row.fresh } in
     record {
-      row = subst R (sym all) (subst T (sym s.loads) (filled o s.found walked_row));
+      row = subst (λ (x : Cached Range). IsRow n new x) (sym all) (subst (λ (v : TreapView). IsRow n v (with_range o k)) (sym s.loads) (filled o s.found walked_row));
       walks = record {
         answer = miss-answer n space page t k o row none s.found;
         after = ap (λ (v : TreapView). row_of n v left) s.loads ∙ ap (row_of n after) all ∙ miss-after n space page t k o row none s.found;
@@ -131,11 +128,9 @@ pub fence-made : (to : Reach) (n count : ℕ) (t : TreapView) (k left : Cached R
     → IsRowFence to n count t k left
 unfolding fence_answer table_fenced caches_fenced
 fence-made to n count t k left row sum is =
-    let R : Cached Range → Type 0 = λ x. IsRow n t x in
-    let P : Cached Range → Type 0 = λ x. count + length x.items ≡ length k.items in
-    let s : count + length (purged (reaches_range to) k.items) ≡ length k.items = subst P is sum in
+    let s : count + length (purged (reaches_range to) k.items) ≡ length k.items = subst (λ (x : Cached Range). count + length x.items ≡ length k.items) is sum in
     record {
-      row = subst R (sym is) (record { whole = row.whole; fresh = λ r i. row.fresh r (purged-In (reaches_range to) r k.items i).0 });
+      row = subst (λ (x : Cached Range). IsRow n t x) (sym is) (record { whole = row.whole; fresh = λ r i. row.fresh r (purged-In (reaches_range to) r k.items i).0 });
       fences = record { answer = omega arith; after = ap (row_of n t) is };
     }
 

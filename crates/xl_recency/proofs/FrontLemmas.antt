@@ -30,22 +30,6 @@ module _ {A : Type 0} where
   spread-back (suc place) at d xs some h k =
       let e : suc place - 1 ≡ place = omega arith in rw e (spread-more place at d xs (omega arith) k)
 
-  pub spread-all : (at : ℕ) (item : A) (xs : List A) → at < length xs → set (spread 0 at xs) 0 item ≡ item ∷ remove xs at
-  spread-all at item [] h = absurd (omega arith)
-  spread-all at item (x ∷ xs) h = refl
-
-  pub spread-length : (place at : ℕ) (xs : List A) → place ≤ at → at < length xs → length (spread place at xs) ≡ length xs
-  spread-length place at [] h k = absurd (omega arith)
-  spread-length zero zero (x ∷ xs) h k = refl
-  spread-length zero (suc at) (x ∷ xs) h k = ap suc (one-less at xs (omega arith))
-    where
-      one-less : (at : ℕ) (xs : List A) → at < length xs → suc (length (remove xs at)) ≡ length xs
-      one-less at [] h = absurd (omega arith)
-      one-less zero (x ∷ xs) h = refl
-      one-less (suc at) (x ∷ xs) h = ap suc (one-less at xs (omega arith))
-  spread-length (suc place) zero (x ∷ xs) h k = absurd (omega arith)
-  spread-length (suc place) (suc at) (x ∷ xs) h k = ap suc (spread-length place at xs (omega arith) (omega arith))
-
   take-remove : (n at : ℕ) (xs : List A) → n ≤ at → take n (remove xs at) ≡ take n xs
   take-remove zero at xs h = refl
   take-remove (suc n) zero xs h = absurd (omega arith)

@@ -1,6 +1,5 @@
 -- The names that this crate's proofs import from elsewhere, passed on from one place. Declares nothing.
-pub use Rattle.std.proofs.Common.{◌%◌, ◌*◌, ◌++◌, ◌+◌, ◌-◌, ◌/◌, ◌<◌, ◌||◌, ◌∙◌, ◌∷◌, ◌≡◌, ◌≤◌, [], add-one, ap, arith, Bool, drop, drop-cons, false, get_or, inl, inr, length, length-append, List, map, refl, slice_index, subst, suc, sym, true, zero, ℕ}
-pub use Rattle.std.specs.Prelude.{codes, decimal}
+pub use Rattle.std.proofs.Common.{◌%◌, ◌*◌, ◌++◌, ◌+◌, ◌-◌, ◌/◌, ◌<◌, ◌||◌, ◌∙◌, ◌∷◌, ◌≡◌, ◌≤◌, [], add-one, ap, arith, Bool, drop, drop-cons, false, inl, inr, length, length-append, List, map, refl, slice_index, subst, suc, sym, true, zero, ℕ}
 pub use Rattle.std.specs.Str.{IsAscii, IsUtf8}
 pub use Rattle.serde_json.specs.Data.{Data, Members, no_members, object}
 pub use Rattle.serde_json.specs.View.{items_of, members_view, view}

@@ -1,5 +1,5 @@
 -- Rows as JSON.
-use Rattle.xl_report.proofs.Common.{◌%◌, ◌++◌, ◌+◌, ◌-◌, ◌/◌, ◌<◌, ◌||◌, ◌∙◌, ◌∷◌, ◌≡◌, [], add-one, amount, ap, arith, Bool, change_members, Data, drop, drop-cons, false, get_or, hex_digits, hex_glyph, inl, inr, IsAscii, IsUtf8, items_of, length, List, map, named_members, no_members, object, objects_of, pair, pairs, refl, row_object, row_objects, slice_index, suc, true, verdict_members, view, walk_members, zero, ℕ}
+use Rattle.xl_report.proofs.Common.{◌%◌, ◌++◌, ◌+◌, ◌-◌, ◌/◌, ◌<◌, ◌||◌, ◌∙◌, ◌∷◌, ◌≡◌, [], add-one, amount, ap, arith, Bool, change_members, Data, drop, drop-cons, false, hex_digits, hex_glyph, inl, inr, IsAscii, IsUtf8, items_of, length, List, map, named_members, no_members, object, objects_of, pair, pairs, refl, row_object, row_objects, slice_index, suc, true, verdict_members, view, walk_members, zero, ℕ}
 use Rattle.std.proofs.lemmas.Bool.{cases_lt, le-ltb, lt-ltb}
 use Rattle.std.proofs.lemmas.Str.{IsUtf8-append, IsUtf8-from_ascii, IsUtf8-nil}
 use Rattle.serde_json.specs.Written.{has_float, items_have_float}
@@ -76,11 +76,3 @@ front-plain (x ∷ xs) ys h = by_head (has_float x) (items_have_float (items_of 
 
 pub so_far-plain : (xs ys : List Data) (rows : List Row) (counts : List Counts) → xs ++ ys ≡ objects_of rows counts → items_have_float (items_of xs) ≡ false
 so_far-plain xs ys rows counts h = front-plain xs ys (ap (λ (all : List Data). items_have_float (items_of all)) h ∙ objects-plain rows counts)
-
--- one row more
-pub next_object : (rows : List Row) (counts : List Counts) (i : ℕ) (r : Row) (c : Counts) → i < length rows → i < length counts → get_or rows i r ≡ r → get_or counts i c ≡ c
-    → objects_of (drop i rows) (drop i counts) ≡ row_object r.name.bytes c ∷ objects_of (drop (i + 1) rows) (drop (i + 1) counts)
-next_object rows counts i r c h k e f =
-    let a : drop i rows ≡ r ∷ drop (i + 1) rows = rw add-one (drop-cons rows i r h) ∙ ap (λ (x : Row). x ∷ drop (i + 1) rows) e in
-    let b : drop i counts ≡ c ∷ drop (i + 1) counts = rw add-one (drop-cons counts i c k) ∙ ap (λ (x : Counts). x ∷ drop (i + 1) counts) f in
-    rw (a, b) refl

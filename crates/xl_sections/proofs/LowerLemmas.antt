@@ -106,8 +106,7 @@ once-gone key (g ∷ hs) (out, rest) =
       | true ↦ λ t. subst P (sym (gone-yes key g hs t)) on
       | false ↦ λ t. subst P (sym (gone-no key g hs t)) (
         λ i. let r = keys-In g.tag (without_tag key hs) i in
-            let Q : ℕ → Type 0 = λ m. In m (keys_of (counts_of hs)) in
-            out (subst Q r.2 (In-map (λ (c : Count). c.key) (count_in r.0) (counts_of hs) (In-map count_in r.0 hs (gone-In key r.0 hs r.1)))),
+            out (subst (λ (m : ℕ). In m (keys_of (counts_of hs))) r.2 (In-map (λ (c : Count). c.key) (count_in r.0) (counts_of hs) (In-map count_in r.0 hs (gone-In key r.0 hs r.1)))),
         on,
       )
     ] refl

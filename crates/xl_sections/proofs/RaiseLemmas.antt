@@ -56,11 +56,9 @@ once-tag g h [] o i j q = absurd i
 once-tag g h (x ∷ xs) (out, rest) (inl e) (inl f) q = e ∙ sym f
 once-tag g h (x ∷ xs) (out, rest) (inr i) (inr j) q = once-tag g h xs rest i j q
 once-tag g h (x ∷ xs) (out, rest) (inl e) (inr j) q =
-    let P : ℕ → Type 0 = λ k. In k (keys_of (counts_of xs)) in
-    absurd (out (subst P (sym q ∙ ap (λ (y : Held). y.tag) e) (In-map (λ (c : Count). c.key) (count_in h) (counts_of xs) (In-map count_in h xs j))))
+    absurd (out (subst (λ (k : ℕ). In k (keys_of (counts_of xs))) (sym q ∙ ap (λ (y : Held). y.tag) e) (In-map (λ (c : Count). c.key) (count_in h) (counts_of xs) (In-map count_in h xs j))))
 once-tag g h (x ∷ xs) (out, rest) (inr i) (inl f) q =
-    let P : ℕ → Type 0 = λ k. In k (keys_of (counts_of xs)) in
-    absurd (out (subst P (q ∙ ap (λ (y : Held). y.tag) f) (In-map (λ (c : Count). c.key) (count_in g) (counts_of xs) (In-map count_in g xs i))))
+    absurd (out (subst (λ (k : ℕ). In k (keys_of (counts_of xs))) (q ∙ ap (λ (y : Held). y.tag) f) (In-map (λ (c : Count). c.key) (count_in g) (counts_of xs) (In-map count_in g xs i))))
 
 -- what the entry with the key shares with no other
 pub same-test : (key e : ℕ) (hs : List Held) (h : Held) → AreKept hs → In h hs → h.tag ≡ key → h.entry ≡ e → (g : Held) → In g hs → is_entry e g ≡ (g.tag == key)
@@ -253,10 +251,9 @@ raised-new key by old new k n some done =
     let hs = old.held in
     let b = old.shape.buckets in
     let x : Held = record { entry = done.held.0; tag = key; values = by ∷ [] } in
-    let P : List Held → Type 0 = λ gs. AreKept gs in
     let none : count_of key (counts_of hs) ≡ 0 = zero-count key hs n in
     record {
-      kept = subst P (sym done.held.3) (record {
+      kept = subst (λ (gs : List Held). AreKept gs) (sym done.held.3) (record {
         counts = record {
           once = once-front b x hs k.counts.once n;
           some = λ c j. (let r = map-In count_in c (in_front_of b x hs) j in let Q : Count → Type 0 = λ d. 0 < d.number in

@@ -1,7 +1,6 @@
 -- What a section's word says.
-use Rattle.xl_sections.proofs.Common.{◌&&◌, ◌*◌, ◌+◌, ◌<◌, ◌==◌, ◌^◌, ◌||◌, ◌∙◌, ◌∷◌, ◌≡◌, [], ap, arith, Bool, cond, false, Leaf, length, List, nat_tests, not, Order, part, refl, sym, true, unit, word_of, ℕ}
+use Rattle.xl_sections.proofs.Common.{◌&&◌, ◌*◌, ◌+◌, ◌<◌, ◌==◌, ◌^◌, ◌||◌, ◌∙◌, ◌∷◌, ◌≡◌, [], ap, arith, Bool, cond, false, Leaf, List, nat_tests, not, Order, part, refl, true, unit, word_of, ℕ}
 use Rattle.std.specs.List.{list_any}
-use Rattle.xl_list_lemmas.proofs.TallyLemmas.{tally-any, tally-short}
 use Rattle.xl_list_lemmas.specs.Tallies.{tally}
 use Rattle.xl_model.specs.Addresses.{same_order}
 use Rattle.xl_model.specs.Base.{one_if}
@@ -10,24 +9,6 @@ use Rattle.xl_model.specs.declared.address.Order.TheVariants as order
 
 pub parts-are : (a b c : ℕ) → a < 2 ^ 22 → b < 2 ^ 22 → (part order.K4 (a + (b * 2 ^ 22 + c * 2 ^ 44)) ≡ a) × (part order.M2 (a + (b * 2 ^ 22 + c * 2 ^ 44)) ≡ b) × (part order.G1 (a + (b * 2 ^ 22 + c * 2 ^ 44)) ≡ c)
 parts-are a b c h k = (omega arith, omega arith, omega arith)
-
--- each part counts the leaves of its order
-pub part-is : (size : Order) (key : ℕ) (o : Order) (leaves : List Leaf) → length leaves < 2 ^ 22 → part o (word_of size key leaves) ≡ tally (of_order size key o) leaves
-unfolding word_of
-part-is size key order.K4 leaves h =
-    (parts-are (tally (of_order size key order.K4) leaves) (tally (of_order size key order.M2) leaves) (tally (of_order size key order.G1) leaves)
-    (omega (arith, tally-short (of_order size key order.K4) leaves)) (omega (arith, tally-short (of_order size key order.M2) leaves))).0
-part-is size key order.M2 leaves h =
-    (parts-are (tally (of_order size key order.K4) leaves) (tally (of_order size key order.M2) leaves) (tally (of_order size key order.G1) leaves)
-    (omega (arith, tally-short (of_order size key order.K4) leaves)) (omega (arith, tally-short (of_order size key order.M2) leaves))).1
-part-is size key order.G1 leaves h =
-    (parts-are (tally (of_order size key order.K4) leaves) (tally (of_order size key order.M2) leaves) (tally (of_order size key order.G1) leaves)
-    (omega (arith, tally-short (of_order size key order.K4) leaves)) (omega (arith, tally-short (of_order size key order.M2) leaves))).2
-
--- the bits of a section
-pub bit-is : (size : Order) (key : ℕ) (o : Order) (leaves : List Leaf) → length leaves < 2 ^ 22
-    → list_any (of_order size key o) leaves ≡ not (part o (word_of size key leaves) == 0)
-bit-is size key o leaves h = tally-any (of_order size key o) leaves ∙ ap (λ n. not (n == 0)) (sym (part-is size key o leaves h))
 
 -- whether a section exists
 pub any-is : (size : Order) (key : ℕ) (leaves : List Leaf) → list_any (counts_at size key) leaves ≡ not (word_of size key leaves == 0)

@@ -11,7 +11,7 @@ pub use Rattle.xl_course.proofs.KnownLemmas.{is_err_by, known_all, known_one, kn
 pub use Rattle.xl_course.specs.Accounts.{Account, account, EndAfter, Ends, EndsAs, faulted, last_where}
 pub use Rattle.xl_course.specs.Courses.{commands_of, course, items_of_all, items_of as record_items}
 pub use Rattle.xl_course.specs.Meanings.{lines_where, printed_by, states_after}
-pub use Rattle.xl_course.specs.Sources.{accesses_of_all, Gives as Answered, EndsBy, Skims}
+pub use Rattle.xl_course.specs.Sources.{accesses_of_all, EndsBy, Skims}
 pub use Rattle.xl_course.specs.declared.stop.Stop.{Stop}
 pub use Rattle.xl_lackey.specs.Skims.{accesses_in, all_accesses, pair, Takes as TakesLines, with_records}
 pub use Rattle.xl_lackey.specs.Stream.{due, Left, left, left_by, MayCome, Record, records, State, unless_bad}
@@ -25,8 +25,7 @@ pub use Rattle.xl_model.specs.Scenes.{lives_after, opened, opening_scene, rows_a
 unfoldable pub use Rattle.xl_model.specs.Scenes.{item_lines, scene_after}
 pub use Rattle.xl_model.specs.declared.address.Kind.{Kind}
 pub use Rattle.xl_model.specs.declared.fault.InputFault.{InputFault}
-pub use Rattle.xl_model.specs.declared.fault.InputFault.TheVariants.{TraceLine, TraceTooLong}
-pub use Rattle.xl_model.specs.declared.row.Row.{Row as RowFields}
+pub use Rattle.xl_model.specs.declared.fault.InputFault.TheVariants.{TraceTooLong}
 pub use Rattle.xl_model.specs.declared.script.Area.{Area}
 pub use Rattle.xl_model.specs.declared.script.Command.{Command}
 pub use Rattle.xl_model.specs.declared.script.Item.{Item}
@@ -44,5 +43,5 @@ pub use Rattle.xl_serving.specs.Inputs.{commands_said, config_fault, Finds, rows
 pub use Rattle.xl_serving.specs.Plain.{account_by, account_from, AreOpened, end_text, items_of, plain, plain_account, plain_rows, plain_start, rows_by, rows_from, rows_text, Start, start_of, step_of, steps_of, with_area}
 pub use Rattle.xl_serving.specs.Serving.{count_of, event_at, HasServed, scene_of}
 pub use Rattle.xl_serving.specs.Tapes.{Feeds, FeedsOf, Fills, HasMore, IsFedFrom, IsUnfed, IsWithin, KeepsLeft, size_of, to_come}
-pub use Rattle.xl_serving.specs.Traces.{accesses_of, ahead, at_first, fault_of, left_of, limit, made_left, MadeProgress, next_number, numbered, Progress, trail, trail_of, with_record}
+pub use Rattle.xl_serving.specs.Traces.{accesses_of, ahead, at_first, fault_of, left_of, limit, made_left, MadeProgress, next_number, numbered, Progress, trail, trail_of}
 pub use Rattle.xl_serving.specs.declared.batch.BatchedEvent.{BatchedEvent}

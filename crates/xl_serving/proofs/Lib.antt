@@ -6,7 +6,6 @@ pub mod BatchLemmas
 pub mod AreaLemmas
 pub mod ItemLemmas
 pub mod InputLemmas
-mod OpenedLemmas
 pub mod EndLemmas
 pub mod PlainLemmas
 mod LawLemmas

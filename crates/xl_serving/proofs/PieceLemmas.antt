@@ -94,9 +94,6 @@ at_limit file p a none h =
 below_of_test : (m n : ℕ) → true ≡ nat_lt m n → m < n
 below_of_test m n h = grind (arith, nat_tests)
 
-not_below_of_test : (m n : ℕ) → false ≡ nat_lt m n → n ≤ m
-not_below_of_test m n h = grind (arith, nat_tests)
-
 pub fills_on : (file : Option (List ℕ)) (n : ℕ) (old new : Progress) → IsFedFrom file old → FeedsOf file old.at n old.reader new.reader
     → new.at ≡ old.at + n → new.number ≡ old.number → old.at + n ≤ limit → new.reader.finished ≡ false → Fills file old new
 fills_on None n old new w f a m most u = absurd f
@@ -108,11 +105,6 @@ fills_to_end None n old mid new w f a m most u z e = absurd f
 fills_to_end (Some file) n old mid new w f a m most u z e =
     let k = keeps_fed file n old mid w f a m most u in
     let end = f.end z in keeps_both file old mid new k (keeps_finished file mid new k.within (omega arith) e)
-
-pub fills_at_limit : (file : Option (List ℕ)) (p new : Progress) (more : Bool) → IsFedFrom file p → HasMore file limit more → more ≡ false → p.at ≡ limit
-    → new ≡ finished p → Fills file p new
-fills_at_limit None p new more w h t a e = absurd h
-fills_at_limit (Some file) p new more w h t a e = let most = not_below_of_test limit _ (sym t ∙ h) in keeps_finished file p new w (omega arith) e
 
 pub too_long : (file : Option (List ℕ)) (p : Progress) (more : Bool) → HasMore file limit more → more ≡ true → p.at ≡ limit
     → due p.reader [] ≡ ([], None) → EndsBy (why.Input TraceTooLong) (left_of file p)

@@ -185,15 +185,6 @@ map-filter q (x ∷ xs) =
       | inr f ↦ rw f (map-filter q xs)
     ]
 
-pub apart-filter : (r : Place → Bool) (xs : List Place) → Apart xs → Apart (filter r xs)
-unfolding Apart
-apart-filter r [] a = tt
-apart-filter r (x ∷ xs) a =
-    elim (cases_Bool (r x)) [
-      | inl t ↦ rw t (each_filter (λ y. y.stamp ≡ x.stamp → ⊥) r xs a.0, apart-filter r xs a.1)
-      | inr f ↦ rw f (apart-filter r xs a.1)
-    ]
-
 pub filter_all : (r : Place → Bool) (xs : List Place) → Each (λ y. r y ≡ true) xs → filter r xs ≡ xs
 unfolding Each
 filter_all r [] e = refl

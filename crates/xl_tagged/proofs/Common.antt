@@ -1,6 +1,6 @@
 -- The names that this crate's proofs import from elsewhere, passed on from one place. Declares nothing.
 pub use Rattle.std.proofs.Common.{◌%◌, ◌&&◌, ◌*◌, ◌++◌, ◌+◌, ◌/◌, ◌<◌, ◌==◌, ◌^◌, ◌||◌, ◌∙◌, ◌∷◌, ◌≡◌, ◌≤◌, ◌⊎◌, [], ap, arith, Bool, cond, Err, false, inl, inr, length, length-append, List, lit<, map, nat_le, nat_lt, None, not, Ok, OnErr, Option, refl, Result, slice_index, slice_set, Some, subst, suc, sym, true, zero, ℕ}
-pub use Rattle.std.proofs.lemmas.Bool.{eq-eqb, eqb-true, ne_eqb}
+pub use Rattle.std.proofs.lemmas.Bool.{eq-eqb, eqb-true}
 pub use Rattle.std.proofs.lemmas.Bool.Decides.{nat_tests}
 pub use Rattle.std.proofs.lemmas.List.{length-map, length-set}
 pub use Rattle.std.specs.List.{list_any}
@@ -9,9 +9,8 @@ pub use Rattle.xl_chain.specs.Held.{ChainState, first_value, found_of, has, Held
 unfoldable pub use Rattle.xl_chain.specs.Held.{held_with, value_of, without_tag}
 pub use Rattle.xl_chain.specs.Lines.{AreSingle}
 pub use Rattle.xl_list_lemmas.proofs.BucketLemmas.{by-In, In-by, length-by, stays-by, tags-by}
-pub use Rattle.xl_list_lemmas.proofs.MemberLemmas.{any-false, any-In, filter-In, filter-passes, find-In, find-only, find-passes, In-any, In-append, In-filter, In-left, In-map, In-right}
+pub use Rattle.xl_list_lemmas.proofs.MemberLemmas.{any-each, any-false, any-find, any-In, any-or, both, filter-In, filter-passes, find-In, find-only, find-passes, In-any, In-append, In-filter, In-left, In-map, In-right, none-any, same-tests}
 pub use Rattle.xl_list_lemmas.proofs.OnceLemmas.{once-short, own-number}
-pub use Rattle.xl_list_lemmas.proofs.SameLemmas.{any-each, any-find, any-or, both, none-any, same-tests}
 pub use Rattle.xl_list_lemmas.proofs.TallyLemmas.{tally-any, tally-short}
 pub use Rattle.xl_list_lemmas.specs.Members.{In}
 pub use Rattle.xl_list_lemmas.specs.Tallies.{tally}
@@ -39,8 +38,7 @@ pub use Rattle.xl_model.specs.declared.work.Refused.{Refused}
 pub use Rattle.xl_model.specs.declared.work.Work.{Work}
 pub use Rattle.xl_model_lemmas.proofs.InsertionLemmas.{In-with, In-without, same-place, sorted-with, sorted-without, stays-with, with-In, without-In, without-other}
 pub use Rattle.xl_model_lemmas.proofs.KeptLemmas.{mapping-In, mapping-sorted, meets-sym, place-meets}
-pub use Rattle.xl_model_lemmas.proofs.OrderLemmas.{level-low, order-same, orders-same, pages-some, same-level}
-pub use Rattle.xl_model_lemmas.proofs.PlaceLemmas.{aligned-frame, covers-meets, named-first, named-key, named-order, named-space}
+pub use Rattle.xl_model_lemmas.proofs.PlaceLemmas.{aligned-frame, covers-meets, level-low, named-first, named-key, named-order, named-space, order-same, orders-same, pages-some, same-level}
 pub use Rattle.xl_model_lemmas.proofs.SortedLemmas.{same-sorted, with-without}
 pub use Rattle.xl_model_lemmas.specs.Entries.{or_leaf, with_some}
 unfoldable pub use Rattle.xl_model_lemmas.specs.Kept.{mapping_of}

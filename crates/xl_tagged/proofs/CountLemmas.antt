@@ -12,60 +12,19 @@ use Rattle.xl_model.specs.declared.address.Order.TheVariants as order
 abbrev pub adds : Order → ℕ → Leaf → ℕ
 adds size k x = cond (is_smaller size x.order) (cond (counts_at size k x) (unit x.order) 0) 0
 
--- a leaf more
-pub word-with : (size : Order) (k : ℕ) (x : Leaf) (xs : List Leaf) → ((z : Leaf) → In z xs → leaf_key z ≡ leaf_key x → ⊥)
-    → smaller_word size k (with_leaf x xs) ≡ smaller_word size k xs + adds size k x
-word-with order.K4 k x xs new = go (counts_at order.K4 k x) x.order
+-- the word of a list that has a leaf more, by its tallies
+word-more : (size : Order) (k : ℕ) (x : Leaf) (old new : List Leaf) → ((q : Leaf → Bool) → tally q new ≡ tally q old + one_if (q x))
+    → smaller_word size k new ≡ smaller_word size k old + adds size k x
+word-more order.K4 k x old new more = go (counts_at order.K4 k x) x.order
   where
     go : (t : Bool) (o : Order) → 0 ≡ 0 + cond (is_smaller order.K4 o) (cond t (unit o) 0) 0
     go t order.K4 = omega arith
     go t order.M2 = omega arith
     go t order.G1 = omega arith
-word-with order.M2 k x xs new = tally-with (of_order order.M2 k order.K4) x xs new ∙ go (counts_at order.M2 k x) x.order
+word-more order.M2 k x old new more = more (of_order order.M2 k order.K4) ∙ go (counts_at order.M2 k x) x.order
   where
     n : ℕ
-    n = tally (of_order order.M2 k order.K4) xs
-
-    go : (t : Bool) (o : Order) → one_if (t && same_order o order.K4) + n ≡ n + cond (is_smaller order.M2 o) (cond t (unit o) 0) 0
-    go true order.K4 = omega arith
-    go true order.M2 = omega arith
-    go true order.G1 = omega arith
-    go false order.K4 = omega arith
-    go false order.M2 = omega arith
-    go false order.G1 = omega arith
-word-with order.G1 k x xs new =
-    ap (λ a. a + tally (of_order order.G1 k order.M2) (with_leaf x xs) * 2 ^ 22) (tally-with (of_order order.G1 k order.K4) x xs new)
-    ∙ ap (λ b. one_if (of_order order.G1 k order.K4 x) + n + b * 2 ^ 22) (tally-with (of_order order.G1 k order.M2) x xs new)
-    ∙ go (counts_at order.G1 k x) x.order
-  where
-    n : ℕ
-    n = tally (of_order order.G1 k order.K4) xs
-
-    m : ℕ
-    m = tally (of_order order.G1 k order.M2) xs
-
-    go : (t : Bool) (o : Order) → one_if (t && same_order o order.K4) + n + (one_if (t && same_order o order.M2) + m) * 2 ^ 22
-        ≡ n + m * 2 ^ 22 + cond (is_smaller order.G1 o) (cond t (unit o) 0) 0
-    go true order.K4 = omega arith
-    go true order.M2 = omega arith
-    go true order.G1 = omega arith
-    go false order.K4 = omega arith
-    go false order.M2 = omega arith
-    go false order.G1 = omega arith
-
--- a leaf less
-pub word-less : (size : Order) (k : ℕ) (x : Leaf) (xs : List Leaf) → IsSorted xs → In x xs
-    → smaller_word size k xs ≡ smaller_word size k (without_leaf x.space x.first xs) + adds size k x
-word-less order.K4 k x xs s i = go (counts_at order.K4 k x) x.order
-  where
-    go : (t : Bool) (o : Order) → 0 ≡ 0 + cond (is_smaller order.K4 o) (cond t (unit o) 0) 0
-    go t order.K4 = omega arith
-    go t order.M2 = omega arith
-    go t order.G1 = omega arith
-word-less order.M2 k x xs s i = tally-less (of_order order.M2 k order.K4) x xs s i ∙ go (counts_at order.M2 k x) x.order
-  where
-    n : ℕ
-    n = tally (of_order order.M2 k order.K4) (without_leaf x.space x.first xs)
+    n = tally (of_order order.M2 k order.K4) old
 
     go : (t : Bool) (o : Order) → n + one_if (t && same_order o order.K4) ≡ n + cond (is_smaller order.M2 o) (cond t (unit o) 0) 0
     go true order.K4 = omega arith
@@ -74,16 +33,16 @@ word-less order.M2 k x xs s i = tally-less (of_order order.M2 k order.K4) x xs s
     go false order.K4 = omega arith
     go false order.M2 = omega arith
     go false order.G1 = omega arith
-word-less order.G1 k x xs s i =
-    ap (λ a. a + tally (of_order order.G1 k order.M2) xs * 2 ^ 22) (tally-less (of_order order.G1 k order.K4) x xs s i)
-    ∙ ap (λ b. n + one_if (of_order order.G1 k order.K4 x) + b * 2 ^ 22) (tally-less (of_order order.G1 k order.M2) x xs s i)
+word-more order.G1 k x old new more =
+    ap (λ a. a + tally (of_order order.G1 k order.M2) new * 2 ^ 22) (more (of_order order.G1 k order.K4))
+    ∙ ap (λ b. n + one_if (of_order order.G1 k order.K4 x) + b * 2 ^ 22) (more (of_order order.G1 k order.M2))
     ∙ go (counts_at order.G1 k x) x.order
   where
     n : ℕ
-    n = tally (of_order order.G1 k order.K4) (without_leaf x.space x.first xs)
+    n = tally (of_order order.G1 k order.K4) old
 
     m : ℕ
-    m = tally (of_order order.G1 k order.M2) (without_leaf x.space x.first xs)
+    m = tally (of_order order.G1 k order.M2) old
 
     go : (t : Bool) (o : Order) → n + one_if (t && same_order o order.K4) + (m + one_if (t && same_order o order.M2)) * 2 ^ 22
         ≡ n + m * 2 ^ 22 + cond (is_smaller order.G1 o) (cond t (unit o) 0) 0
@@ -93,6 +52,15 @@ word-less order.G1 k x xs s i =
     go false order.K4 = omega arith
     go false order.M2 = omega arith
     go false order.G1 = omega arith
+
+pub word-with : (size : Order) (k : ℕ) (x : Leaf) (xs : List Leaf) → ((z : Leaf) → In z xs → leaf_key z ≡ leaf_key x → ⊥)
+    → smaller_word size k (with_leaf x xs) ≡ smaller_word size k xs + adds size k x
+word-with size k x xs new =
+    word-more size k x xs (with_leaf x xs) (λ q. let e : tally q (with_leaf x xs) ≡ one_if (q x) + tally q xs = tally-with q x xs new in omega arith)
+
+pub word-less : (size : Order) (k : ℕ) (x : Leaf) (xs : List Leaf) → IsSorted xs → In x xs
+    → smaller_word size k xs ≡ smaller_word size k (without_leaf x.space x.first xs) + adds size k x
+word-less size k x xs s i = word-more size k x (without_leaf x.space x.first xs) xs (λ q. tally-less q x xs s i)
 
 -- the counts of a size after each change
 pub counted-with : (size : Order) (x : Leaf) (xs : List Leaf) (room : ℕ) (c d : CountState) → ((z : Leaf) → In z xs → leaf_key z ≡ leaf_key x → ⊥)
@@ -167,8 +135,7 @@ key-tagged f size values tags xs room c h k key i = found (any-In (lies_in size 
     found (x, j, t) =
         let small : is_smaller size x.order ≡ true = grind (arith, nat_tests) in
         let lies : key_in size x ≡ key = grind (arith, nat_tests) in
-        let P : ℕ → Type 0 = λ n. In n (map (section_of f size) tags) in
-        subst P (section-is f size x (h.fit x j).aligned small ∙ lies) (In-map (section_of f size) (leaf_tag (group_of f) x) tags (h.tagged x j))
+        subst (λ (n : ℕ). In n (map (section_of f size) tags)) (section-is f size x (h.fit x j).aligned small ∙ lies) (In-map (section_of f size) (leaf_tag (group_of f) x) tags (h.tagged x j))
 
 -- no more leaves than slots
 mapping-short : (xs : List Leaf) → length (mapping_of xs) ≤ length xs
@@ -242,10 +209,9 @@ has-room back f size values tags tags' x xs room c h k fit stays here few small 
     place : is_smaller size x.order ≡ true → count_of (key_in size x) c.counts ≡ 0 → length c.counts < c.room
     place t absent =
         let new : In (key_in size x) (keys_of c.counts) → ⊥ = λ i. counted (key_in size x) c.counts k.are i absent in
-        let P : ℕ → Type 0 = λ n. In n (map (section_of f size) tags') in
         let n : suc (length (keys_of c.counts)) ≤ length (map (section_of f size) tags') = once-short (key_in size x ∷ keys_of c.counts) (map (section_of f size) tags') (new, k.are.once)
         (λ key i. elim i [
-          | inl e ↦ subst P (section-is f size x fit.aligned t ∙ sym e) (In-map (section_of f size) (leaf_tag (group_of f) x) tags' here)
+          | inl e ↦ subst (λ (n : ℕ). In n (map (section_of f size) tags')) (section-is f size x fit.aligned t ∙ sym e) (In-map (section_of f size) (leaf_tag (group_of f) x) tags' here)
           | inr j ↦ moved key tags stays (key-tagged f size values tags xs room c h k key j)
         ]) in
         let a : length (keys_of c.counts) ≡ length c.counts = length-map c.counts (λ (d : Count). d.key) in

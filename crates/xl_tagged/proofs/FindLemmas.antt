@@ -2,10 +2,59 @@
 -- overlaps a leaf.
 use Rattle.xl_tagged.proofs.Common.{◌&&◌, ◌*◌, ◌+◌, ◌/◌, ◌<◌, ◌==◌, ◌^◌, ◌||◌, ◌∙◌, ◌≡◌, ◌≤◌, any-each, any-find, any-or, ap, AreHeld, arith, Bool, chain_reads, chains_reads, cond, counts_at, covers, covers-meets, false, find, find-In, find-only, find-passes, first_found, Form, found_from, found_in, group_of, In, In-any, inl, inr, is_smaller, is_some, IsAligned, IsAt, Leaf, leaf_at_page, leaf_read, leaf_tag, leaf_word, level_of, List, list_any, loads_by, MadeWordsReadBack, meets_any, meets_block, nat_tests, None, none-any, not, of_order, Option, or_leaf, Order, order-same, orders-same, orders_tried, pages-some, pages_of, refl, same-tests, same_order, slot_of, smaller_word, Some, subst, sym, tag_of, tally, tally-any, true, word_at, ℕ}
 use Rattle.xl_model_lemmas.proofs.SearchLemmas.{only, only-first}
-use Rattle.xl_tagged.proofs.BlockLemmas.{meets-g1, meets-m2}
 use Rattle.xl_tagged.proofs.PlaceLemmas.{at-covers, covered-number, covers-at, slot-low}
 use Rattle.xl_tagged.proofs.SlotLemmas.{leaf-some, none-read, read-leaf}
 use Rattle.xl_model.specs.declared.address.Order.TheVariants as order
+
+-- a 1 GiB block overlaps what lies in its section
+pub meets-g1 : (space first e : ℕ) (x : Leaf) → space < 64 → first < 2 ^ 45 → first ≡ e * 262144 → IsAligned x → meets_block space first order.G1 x ≡ counts_at order.G1 (space * 2 ^ 45 + first / 262144) x
+meets-g1 space first e x a b c s = go x.order s.aligned.0 s.aligned.1
+  where
+    xs : x.space < 64
+    xs = s.placed.space_in
+
+    xf : x.first < 2 ^ 45
+    xf = s.placed.page_in
+
+    go : (o : Order) (k : ℕ) → x.first ≡ k * pages_of o → meets_block space first order.G1 (record x { order = o }) ≡ counts_at order.G1 (space * 2 ^ 45 + first / 262144) (record x { order = o })
+    go order.K4 k q = same-tests _ _ (λ t. let u : x.space ≡ space = grind (arith, nat_tests) in let v : x.first < first + 262144 = grind (arith, nat_tests) in let w : first < x.first + 1 = grind (arith, nat_tests) in
+        let z : x.space * 2 ^ 45 + x.first / 262144 ≡ space * 2 ^ 45 + first / 262144 = omega arith in grind (arith, nat_tests))
+        (λ t. let z : x.space * 2 ^ 45 + x.first / 262144 ≡ space * 2 ^ 45 + first / 262144 = grind (arith, nat_tests) in
+        let u : x.space ≡ space = omega arith in let v : x.first < first + 262144 = omega arith in let w : first < x.first + 1 = omega arith in grind (arith, nat_tests))
+    go order.M2 k q = same-tests _ _ (λ t. let u : x.space ≡ space = grind (arith, nat_tests) in let v : x.first < first + 262144 = grind (arith, nat_tests) in let w : first < x.first + 512 = grind (arith, nat_tests) in
+        let z : x.space * 2 ^ 45 + x.first / 262144 ≡ space * 2 ^ 45 + first / 262144 = omega arith in grind (arith, nat_tests))
+        (λ t. let z : x.space * 2 ^ 45 + x.first / 262144 ≡ space * 2 ^ 45 + first / 262144 = grind (arith, nat_tests) in
+        let u : x.space ≡ space = omega arith in let v : x.first < first + 262144 = omega arith in let w : first < x.first + 512 = omega arith in grind (arith, nat_tests))
+    go order.G1 k q = same-tests _ _ (λ t. let u : x.space ≡ space = grind (arith, nat_tests) in let v : x.first < first + 262144 = grind (arith, nat_tests) in let w : first < x.first + 262144 = grind (arith, nat_tests) in
+        let z : x.space * 2 ^ 45 + x.first / 262144 ≡ space * 2 ^ 45 + first / 262144 = omega arith in grind (arith, nat_tests))
+        (λ t. let z : x.space * 2 ^ 45 + x.first / 262144 ≡ space * 2 ^ 45 + first / 262144 = grind (arith, nat_tests) in
+        let u : x.space ≡ space = omega arith in let v : x.first < first + 262144 = omega arith in let w : first < x.first + 262144 = omega arith in grind (arith, nat_tests))
+
+-- a 2 MiB block overlaps what lies in its section, and the 1 GiB leaf of its 1 GiB section
+pub meets-m2 : (space first e : ℕ) (x : Leaf) → space < 64 → first < 2 ^ 45 → first ≡ e * 512 → IsAligned x
+    → meets_block space first order.M2 x ≡ (counts_at order.M2 (space * 2 ^ 45 + first / 512) x || of_order order.G1 (space * 2 ^ 45 + first / 262144) order.G1 x)
+meets-m2 space first e x a b c s = go x.order s.aligned.0 s.aligned.1
+  where
+    xs : x.space < 64
+    xs = s.placed.space_in
+
+    xf : x.first < 2 ^ 45
+    xf = s.placed.page_in
+
+    go : (o : Order) (k : ℕ) → x.first ≡ k * pages_of o
+        → meets_block space first order.M2 (record x { order = o }) ≡ (counts_at order.M2 (space * 2 ^ 45 + first / 512) (record x { order = o }) || of_order order.G1 (space * 2 ^ 45 + first / 262144) order.G1 (record x { order = o }))
+    go order.K4 k q = same-tests _ _ (λ t. let u : x.space ≡ space = grind (arith, nat_tests) in let v : x.first < first + 512 = grind (arith, nat_tests) in let w : first < x.first + 1 = grind (arith, nat_tests) in
+        let z : x.space * 2 ^ 45 + x.first / 512 ≡ space * 2 ^ 45 + first / 512 = omega arith in grind (arith, nat_tests))
+        (λ t. let z : x.space * 2 ^ 45 + x.first / 512 ≡ space * 2 ^ 45 + first / 512 = grind (arith, nat_tests) in
+        let u : x.space ≡ space = omega arith in let v : x.first < first + 512 = omega arith in let w : first < x.first + 1 = omega arith in grind (arith, nat_tests))
+    go order.M2 k q = same-tests _ _ (λ t. let u : x.space ≡ space = grind (arith, nat_tests) in let v : x.first < first + 512 = grind (arith, nat_tests) in let w : first < x.first + 512 = grind (arith, nat_tests) in
+        let z : x.space * 2 ^ 45 + x.first / 512 ≡ space * 2 ^ 45 + first / 512 = omega arith in grind (arith, nat_tests))
+        (λ t. let z : x.space * 2 ^ 45 + x.first / 512 ≡ space * 2 ^ 45 + first / 512 = grind (arith, nat_tests) in
+        let u : x.space ≡ space = omega arith in let v : x.first < first + 512 = omega arith in let w : first < x.first + 512 = omega arith in grind (arith, nat_tests))
+    go order.G1 k q = same-tests _ _ (λ t. let u : x.space ≡ space = grind (arith, nat_tests) in let v : x.first < first + 512 = grind (arith, nat_tests) in let w : first < x.first + 262144 = grind (arith, nat_tests) in
+        let z : x.space * 2 ^ 45 + x.first / 262144 ≡ space * 2 ^ 45 + first / 262144 = omega arith in grind (arith, nat_tests))
+        (λ t. let z : x.space * 2 ^ 45 + x.first / 262144 ≡ space * 2 ^ 45 + first / 262144 = grind (arith, nat_tests) in
+        let u : x.space ≡ space = omega arith in let v : x.first < first + 512 = omega arith in let w : first < x.first + 262144 = omega arith in grind (arith, nat_tests))
 
 module _ (back : MadeWordsReadBack) (f : Form) (s page : ℕ) (values : ℕ → List ℕ) (tags : List ℕ) (leaves : List Leaf) (space_in : s < 64) (page_in : page < 2 ^ 45)
     (h : AreHeld f values tags leaves) where
@@ -33,8 +82,7 @@ module _ (back : MadeWordsReadBack) (f : Form) (s page : ℕ) (values : ℕ → 
         | true ↦ λ t.
             let i : In x leaves = find-In (covers s page) x leaves w in
             let a : IsAt f (tag_of (group_of f) s x.order page) (slot_of f x.order page) x = covers-at f s page x (h.fit x i).aligned (find-passes (covers s page) x leaves w) in
-            let P : Order → Type 0 = λ q. IsAt f (tag_of (group_of f) s q page) (slot_of f q page) x in
-            absurd (leaf-some back x (h.fit x i) (sym (word-of o x i (subst P (orders-same x.order o t) a)) ∙ zero))
+            absurd (leaf-some back x (h.fit x i) (sym (word-of o x i (subst (λ (q : Order). IsAt f (tag_of (group_of f) s q page) (slot_of f q page) x) (orders-same x.order o t) a)) ∙ zero))
         | false ↦ λ t. refl
       ] refl
 

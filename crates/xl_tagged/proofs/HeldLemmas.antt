@@ -97,9 +97,7 @@ take-held f values values' tags tags' tag slot xs ys h some w ts l = record {
         | true ↦ λ k.
             let same : t ≡ tag = grind (arith, nat_tests) in
             let used : word_at f values' tag (slot_of f z.order z.first) ≡ 0 → ⊥ = (λ e. some z j.0 (sym (word z i) ∙ ap (λ n. word_at f values' n (slot_of f z.order z.first)) same ∙ e)) in
-            let P : ℕ → Type 0 = λ n. In n tags' in
-            let Q : ℕ → Type 0 = λ n. In n tags in
-            subst P (sym same) (ts.kept (slot_of f z.order z.first) (slot-low f (z.first / pages_of z.order)) used (subst Q same (h.tagged z j.0)))
+            subst (λ (n : ℕ). In n tags') (sym same) (ts.kept (slot_of f z.order z.first) (slot-low f (z.first / pages_of z.order)) used (subst (λ (n : ℕ). In n tags) same (h.tagged z j.0)))
         | false ↦ λ k. ts.stays t (h.tagged z j.0) (λ e. absurd (grind (arith, nat_tests)))
       ] refl;
   slot = slots;
@@ -107,8 +105,7 @@ take-held f values values' tags tags' tag slot xs ys h some w ts l = record {
       elim (t == tag) as (λ b. (t == tag) ≡ b → (x : Leaf) × In x ys × (leaf_tag (group_of f) x ≡ t)) [
         | true ↦ λ k.
             let same : t ≡ tag = grind (arith, nat_tests) in
-            let P : ℕ → Type 0 = λ n. In n tags' in
-            let u = ts.used (subst P same i) in
+            let u = ts.used (subst (λ (n : ℕ). In n tags') same i) in
             elim (slots tag u.0 u.1) [
               | inl e ↦ absurd (u.2 e)
               | inr r ↦ (r.0, r.1, r.2.tag_is ∙ sym same)
@@ -169,8 +166,7 @@ without-old f values tags x xs h there = record {
       (j, λ at. without-other z x.space x.first xs i (at-key f (leaf_tag (group_of f) x) (slot_of f x.order x.first) z x (h.fit z j) (h.fit x there) at (record { tag_is = refl; slot_is = refl })));
   stays = λ z i other. In-without z x.space x.first xs i (λ e.
       let same : z ≡ x = same-place z x xs h.sorted i there e in
-      let P : Leaf → Type 0 = λ y. IsAt f (leaf_tag (group_of f) x) (slot_of f x.order x.first) y in
-      other (subst P (sym same) (record { tag_is = refl; slot_is = refl })));
+      other (subst (λ (y : Leaf). IsAt f (leaf_tag (group_of f) x) (slot_of f x.order x.first) y) (sym same) (record { tag_is = refl; slot_is = refl })));
 }
 
 -- a leaf with another permission
@@ -192,5 +188,4 @@ with-given f values tags perm x xs h there =
     alone z i other false e = refl
     alone z i other true e =
         let same : x ≡ z = h.apart x z there i e in
-        let P : Leaf → Type 0 = λ y. IsAt f (leaf_tag (group_of f) x) (slot_of f x.order x.first) y in
-        absurd (other (subst P same (record { tag_is = refl; slot_is = refl })))
+        absurd (other (subst (λ (y : Leaf). IsAt f (leaf_tag (group_of f) x) (slot_of f x.order x.first) y) same (record { tag_is = refl; slot_is = refl })))

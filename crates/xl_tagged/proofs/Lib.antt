@@ -10,4 +10,3 @@ pub mod WholeLemmas
 pub mod StepLemmas
 pub mod SearchLemmas
 pub mod GroupLemmas
-mod BlockLemmas

@@ -2,7 +2,7 @@
 use Rattle.xl_tagged.proofs.Common.{◌%◌, ◌*◌, ◌+◌, ◌/◌, ◌<◌, ◌==◌, ◌^◌, ◌∙◌, ◌∷◌, ◌≡◌, ◌≤◌, ◌⊎◌, [], ap, AreHeld, arith, at-level, false, Form, group_of, IfNone, IfSome, In, In-append, In-left, In-right, In-with, inl, inr, IsAt, IsFit, Leaf, leaf_in, leaf_key, leaf_read, leaf_said, leaf_tag, leaf_word, leaves_under, length, level-low, level_of, List, MadeWordsReadBack, mapping-In, mapping-sorted, mapping_of, nat_tests, None, Option, Order, order_at, pages_of, Perm, refl, same-place, same-sorted, slot_leaves, slot_of, small_known, Some, stays-with, subst, suc, sym, true, with_leaf, with_some, word_at, zero, ℕ}
 use Rattle.xl_pte.specs.Decode.{decode_of, SaysNone, SaysSmall}
 use Rattle.xl_pte.specs.declared.word.Pte.{Pte}
-use Rattle.xl_tagged.proofs.PlaceLemmas.{at-one, group-back, HasParts, IsSamePlace, number-back, slot-low, tag-parts}
+use Rattle.xl_tagged.proofs.PlaceLemmas.{group-back, HasParts, number-back, slot-low, tag-parts}
 use Rattle.xl_model.specs.declared.address.Order.TheVariants as order
 use Rattle.xl_pte.specs.declared.word.Pte.TheVariants as pte
 
@@ -34,16 +34,6 @@ pub leaf-some : MadeWordsReadBack → (x : Leaf) → IsFit x → leaf_word x.fra
 leaf-some back x fit e =
     let bad : Some x ≡ None = sym (read-leaf back x fit) ∙ ap (leaf_read x.space x.order (x.first / pages_of x.order)) e ∙ none-read x.space x.order (x.first / pages_of x.order) in
     absurd (cc)
-
--- leaves at one place with one word are one
-pub same-leaf : MadeWordsReadBack → (f : Form) (tag i : ℕ) (x y : Leaf) → IsFit x → IsFit y → IsAt f tag i x → IsAt f tag i y → leaf_word x.frame x.perm ≡ leaf_word y.frame y.perm → x ≡ y
-same-leaf back f tag i x y a b p q w =
-    let s : IsSamePlace x y = at-one f tag i x y a.aligned b.aligned p q in
-    let e : Some x ≡ Some y = sym (read-leaf back x a) ∙ ap (leaf_read x.space x.order (x.first / pages_of x.order)) w
-    ∙ ap (λ m. leaf_read m x.order (x.first / pages_of x.order) (leaf_word y.frame y.perm)) s.space_same
-    ∙ ap (λ o. leaf_read y.space o (x.first / pages_of o) (leaf_word y.frame y.perm)) s.order_same
-    ∙ ap (λ n. leaf_read y.space y.order (n / pages_of y.order) (leaf_word y.frame y.perm)) s.first_same ∙ read-leaf back y b in
-    cc
 
 -- a leaf is read at its place
 pub in-leaf : MadeWordsReadBack → (f : Form) (tag i : ℕ) (x : Leaf) → IsFit x → IsAt f tag i x → leaf_in f tag i (leaf_word x.frame x.perm) ≡ Some x
@@ -87,8 +77,7 @@ In-slots f values tag (suc n) i x h e =
     elim (i == n) as (λ b. (i == n) ≡ b → In x (with_some (leaf_in f tag n (word_at f values tag n)) (slot_leaves f values tag n))) [
       | true ↦ λ t.
           let same : i ≡ n = grind (arith, nat_tests) in
-          let P : Option Leaf → Type 0 = λ q. In x (with_some q (slot_leaves f values tag n)) in
-          subst P (sym e ∙ ap (λ m. leaf_in f tag m (word_at f values tag m)) same) (inl refl)
+          subst (λ (q : Option Leaf). In x (with_some q (slot_leaves f values tag n))) (sym e ∙ ap (λ m. leaf_in f tag m (word_at f values tag m)) same) (inl refl)
       | false ↦ λ t. let l : i < n = grind (arith, nat_tests) in In-some (leaf_in f tag n (word_at f values tag n)) x (slot_leaves f values tag n) (In-slots f values tag n i x l e)
     ] refl
 
@@ -111,8 +100,7 @@ In-under : (f : Form) (values : ℕ → List ℕ) (tags : List ℕ) (tag i : ℕ
 unfolding leaves_under
 In-under f values [] tag i x h l e = absurd h
 In-under f values (t ∷ ts) tag i x (inl h) l e =
-    let P : ℕ → Type 0 = λ m. In x (slot_leaves f values m (group_of f)) in
-    In-left x (slot_leaves f values t (group_of f)) (leaves_under f values ts) (subst P h (In-slots f values tag (group_of f) i x l e))
+    In-left x (slot_leaves f values t (group_of f)) (leaves_under f values ts) (subst (λ (m : ℕ). In x (slot_leaves f values m (group_of f))) h (In-slots f values tag (group_of f) i x l e))
 In-under f values (t ∷ ts) tag i x (inr h) l e = In-right x (slot_leaves f values t (group_of f)) (leaves_under f values ts) (In-under f values ts tag i x h l e)
 
 -- a list whose members have keys of their own, and its mapping

@@ -20,8 +20,7 @@ front-is b tag (t ∷ ts) = ap (λ us. cond (nat_lt (bucket_of b t) (bucket_of b
 pub held-in : (tags : List ℕ) (tag : ℕ) → has_tag tags tag ≡ true → In tag tags
 held-in tags tag h =
     let r = any-In (λ t. t == tag) tags h in
-    let P : ℕ → Type 0 = λ n. In n tags in
-    subst P (eqb-true r.0 tag r.2) r.1
+    subst (λ (n : ℕ). In n tags) (eqb-true r.0 tag r.2) r.1
 
 pub tag-with : (b tag : ℕ) (tags : List ℕ) → IsTagWith tag tags (with_tag b tag tags)
 unfolding with_tag

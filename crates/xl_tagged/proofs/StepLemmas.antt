@@ -1,5 +1,5 @@
 -- What calls of chains make of slots: an entry that comes, one whose value is set, and one that goes.
-use Rattle.xl_tagged.proofs.Common.{◌+◌, ◌<◌, ◌==◌, ◌||◌, ◌∙◌, ◌∷◌, ◌≡◌, ◌≤◌, [], ap, AreSingle, AreSized, arith, before, Bool, both, ChainState, cond, eq-eqb, eqb-true, false, filter, filter-In, filter-passes, find, find-only, first_value, Form, found_of, given_word, group_of, has, has_tag, Held, held_with, In, In-any, In-map, in_front_of, inl, inr, is_entry, IsPut, IsSet, IsTaken, length, length-by, length-map, length-set, List, list_any, map, nat_tests, ne_eqb, None, not, Option, own-number, Perm, refl, slice_index, slice_set, Some, subst, suc, sym, tags-by, tags_of, true, value_in, value_of, values_by, values_under, with_tag, with_value, without_tag, word_at, word_found, ℕ}
+use Rattle.xl_tagged.proofs.Common.{◌+◌, ◌<◌, ◌==◌, ◌||◌, ◌∙◌, ◌∷◌, ◌≡◌, ◌≤◌, [], ap, AreSingle, AreSized, arith, before, Bool, both, ChainState, cond, eq-eqb, eqb-true, false, filter, filter-In, filter-passes, find, find-only, first_value, Form, found_of, group_of, has, has_tag, Held, held_with, In, In-any, In-map, in_front_of, inl, inr, is_entry, IsPut, IsSet, IsTaken, length, length-by, length-map, length-set, List, list_any, map, nat_tests, None, not, Option, own-number, refl, slice_index, slice_set, Some, subst, suc, sym, tags-by, tags_of, true, value_in, value_of, values_by, values_under, with_tag, with_value, without_tag, word_at, word_found, ℕ}
 use Rattle.xl_chain.proofs.PlaceLemmas.{set-other, set-same}
 use Rattle.xl_chain.specs.Kept.{IsInserted}
 use Rattle.xl_tagged.proofs.ChainLemmas.{IsUnderTag, same-entry, set-by, tags-set, tags-without, values-cons, values-front, values-none, values-without}
@@ -42,9 +42,6 @@ entry-held tag e v hs u = In-any (is_entry e) u.held hs u.there (eq-eqb u.held.e
 
 pub tag-held : (tag e v : ℕ) (hs : List Held) → IsUnderTag tag hs e v → has_tag (tags_of hs) tag ≡ true
 tag-held tag e v hs u = In-any (λ t. t == tag) u.held.tag (tags_of hs) (In-map (λ (h : Held). h.tag) u.held hs u.there) (eq-eqb u.held.tag tag u.tag_is)
-
-other-tag : (t tag : ℕ) → (t ≡ tag → ⊥) → (tag == t) ≡ false
-other-tag t tag other = ne_eqb tag t (λ e. other (sym e))
 
 -- an entry that comes with one slot in use
 pub inserted-put : (f : Form) (tag slot word : ℕ) (vs : List ℕ) (old new : ChainState) → has_tag (tags_of old.held) tag ≡ false → IsInserted tag vs old new
@@ -166,16 +163,3 @@ removed-taken f tag slot old new held shape loads empty sized within =
   where
     never : (t : ℕ) → (t == tag) ≡ true → not (t == tag) ≡ true → ⊥
     never t h k = grind (arith, nat_tests)
-
--- the same steps, at a place with other names
-pub as-put : (f : Form) (tag slot word t i w : ℕ) (old new : ChainState) → IsPut f tag slot word old new → tag ≡ t → slot ≡ i → word ≡ w → IsPut f t i w old new
-as-put f tag slot word t i w old new p a b c = subst (λ q. IsPut f q i w old new) a (subst (λ q. IsPut f tag q w old new) b (subst (λ q. IsPut f tag slot q old new) c p))
-
-pub as-taken : (f : Form) (tag slot t i : ℕ) (old new : ChainState) → IsTaken f tag slot old new → tag ≡ t → slot ≡ i → IsTaken f t i old new
-as-taken f tag slot t i old new p a b = subst (λ q. IsTaken f q i old new) a (subst (λ q. IsTaken f tag q old new) b p)
-
-pub as-given : (f : Form) (tag slot t i : ℕ) (perm : Perm) (old new : ChainState) → IsSet f tag slot (given_word perm (word_at f (values_under old.held) tag slot)) old new → tag ≡ t → slot ≡ i
-    → IsSet f t i (given_word perm (word_at f (values_under old.held) t i)) old new
-as-given f tag slot t i perm old new p a b =
-    subst (λ q. IsSet f q i (given_word perm (word_at f (values_under old.held) q i)) old new) a
-    (subst (λ q. IsSet f tag q (given_word perm (word_at f (values_under old.held) tag q)) old new) b p)

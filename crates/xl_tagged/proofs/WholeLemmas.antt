@@ -1,5 +1,5 @@
 -- A table of chains as a whole, through each of its calls.
-use Rattle.xl_tagged.proofs.Common.{◌%◌, ◌*◌, ◌+◌, ◌/◌, ◌<◌, ◌==◌, ◌^◌, ◌||◌, ◌∙◌, ◌≡◌, ◌≤◌, [], aligned-frame, any-false, any_smaller, ap, AreCounted, AreHeld, AreIn, AreLess, AreMore, arith, before, bit_if, Bool, both, caches_fenced, chained, chains_reads, ChainState, Change, covers, eq-eqb, eqb-true, false, fence_answer, filter-In, filter-passes, find, first_found, Form, found_from, found_in, given_word, group_of, has_tag, HaveRoom, Held, held_leaves, In, In-any, In-filter, inl, inr, Insert, is_leaf, is_some, IsAligned, IsAt, IsBlock, IsChange, IsFence, IsFit, IsIn, IsLeafFor, IsLess, IsNamed, IsPage, IsPut, IsSameTable, IsSet, IsTagged, IsTaken, IsWalk, IsWritten, Leaf, leaf_at_page, leaf_key, leaf_named, leaf_read, leaf_tag, leaf_word, length, length-map, level_of, List, loaded_more, MadeWordsReadBack, meets_any, meets_block, named-first, named-order, named-space, nat_tests, no_moves, None, NoneLarge, not, Ok, only_used_tags, Option, or_leaf, Order, orders_tried, pages_of, Perm, plus, Protect, refl, Refused, Remove, Result, slice_index, slot_of, smaller_word, SmallerState, Some, subst, sym, table_fenced, table_in, table_walked, TableState, tag_of, tags_of, true, values_under, walk_answer, walk_loads, walked, with-In, with_leaf, with_tag, without-In, without_leaf, word_at, Work, work_of, ℕ}
+use Rattle.xl_tagged.proofs.Common.{◌%◌, ◌*◌, ◌+◌, ◌/◌, ◌<◌, ◌==◌, ◌^◌, ◌||◌, ◌∙◌, ◌≡◌, ◌≤◌, [], aligned-frame, any-false, any_smaller, ap, AreCounted, AreHeld, AreIn, AreLess, AreMore, arith, before, bit_if, Bool, both, caches_fenced, chained, chains_reads, ChainState, Change, covers, eq-eqb, eqb-true, false, fence_answer, filter-In, filter-passes, find, first_found, Form, found_from, found_in, given_word, group_of, has_tag, HaveRoom, Held, held_leaves, In, In-filter, inl, inr, Insert, is_leaf, is_some, IsAligned, IsAt, IsBlock, IsChange, IsFence, IsFit, IsIn, IsLeafFor, IsLess, IsNamed, IsPage, IsPut, IsSameTable, IsSet, IsTagged, IsTaken, IsWalk, IsWritten, Leaf, leaf_at_page, leaf_key, leaf_named, leaf_read, leaf_tag, leaf_word, length, length-map, level_of, List, loaded_more, MadeWordsReadBack, meets_any, meets_block, named-first, named-order, named-space, nat_tests, no_moves, None, NoneLarge, not, Ok, only_used_tags, Option, Order, orders_tried, pages_of, Perm, plus, Protect, refl, Refused, Remove, Result, slice_index, slot_of, smaller_word, SmallerState, Some, subst, sym, table_fenced, table_in, table_walked, TableState, tag_of, tags_of, true, values_under, walk_answer, walk_loads, walked, with-In, with_leaf, with_tag, without-In, without_leaf, word_at, Work, work_of, ℕ}
 use Rattle.xl_chain.specs.declared.shape.ChainShape.{ChainShape}
 use Rattle.xl_model.specs.declared.event.Reach.{Reach}
 use Rattle.xl_model.specs.declared.work.Walk.{Walk}
@@ -172,12 +172,6 @@ pub named-word : (f : Form) (space first : ℕ) (o : Order) (c : ChainState) (s 
 named-word f space first o c s w n =
     ap (λ t. word_at f (values_under c.held) t (slot_of f o first)) (sym n.at.tag_is)
     ∙ ap (word_at f (values_under c.held) (leaf_tag (group_of f) n.leaf)) (sym n.at.slot_is) ∙ w.held.word n.leaf n.there
-
-pub named-tagged : (f : Form) (space first : ℕ) (o : Order) (c : ChainState) (s : SmallerState) → IsTagged f c s → (n : IsNamedLeaf f space first o c) → In (tag_of (group_of f) space o first) (tags_of c.held)
-named-tagged f space first o c s w n = subst (λ t. In t (tags_of c.held)) n.at.tag_is (w.held.tagged n.leaf n.there)
-
-pub named-has : (f : Form) (space first : ℕ) (o : Order) (c : ChainState) (s : SmallerState) → IsTagged f c s → (n : IsNamedLeaf f space first o c) → has_tag (tags_of c.held) (tag_of (group_of f) space o first) ≡ true
-named-has f space first o c s w n = In-any (λ t. t == tag_of (group_of f) space o first) (tag_of (group_of f) space o first) (tags_of c.held) (named-tagged f space first o c s w n) (eq-eqb _ _ refl)
 
 pub named-found : MadeWordsReadBack → (f : Form) (space first : ℕ) (o : Order) (c : ChainState) (s : SmallerState) → IsTagged f c s → (n : IsNamedLeaf f space first o c)
     → found_in f space first (values_under c.held) o ≡ Some n.leaf
@@ -386,18 +380,6 @@ none-large back f space page c s w a b = λ h. (
   none-other back f space page (values_under c.held) (tags_of c.held) (held_leaves f c) a b w.held (w.counted.small h) order.G1 refl,
 )
 
--- so the leaf of a page is the one that is found for 4 KiB
-pub small-found : (f : Form) (space page : ℕ) (values : ℕ → List ℕ) (only_small : Bool) → NoneLarge f space page values only_small → only_small ≡ true
-    → first_found f space page values ≡ found_in f space page values order.K4
-small-found f space page values only_small none h =
-    let n = none h in
-    ap (λ q. or_leaf (found_in f space page values order.K4) (or_leaf q (found_in f space page values order.G1))) n.0
-    ∙ ap (λ q. or_leaf (found_in f space page values order.K4) (or_leaf None q)) n.1 ∙ alone (found_in f space page values order.K4)
-  where
-    alone : (q : Option Leaf) → or_leaf q None ≡ q
-    alone None = refl
-    alone (Some x) = refl
-
 -- whether a block overlaps a leaf
 pub meets-step : MadeWordsReadBack → (f : Form) (space first : ℕ) (o : Order) (c : ChainState) (s : SmallerState) → IsTagged f c s → IsBlock (table_in f c).shape space first o
     → (any_smaller o space first s || is_some (found_from f space first (values_under c.held) o)) ≡ meets_any space first o (table_in f c).leaves
@@ -460,29 +442,3 @@ moving-leaf back f space first to o c s old w named found block free =
     let e : Some n.leaf ≡ Some old = sym (named-found back f space first o c s w n) ∙ found in
     let same : n.leaf ≡ old = cc in
     subst (λ x. CanMove f space first to o x c) same (can-move f space first to o c s w n block free)
-
--- leaf number n of an order is one that the table can take
-pub numbered-block : (f : Form) (c : ChainState) (space n : ℕ) (o : Order) → space < 64 → n < 2 ^ 27 → IsBlock (table_in f c).shape space (n * pages_of o) o
-numbered-block f c space n o a b = record { space_in = a; pages_in = inside o; aligned = (n, refl) }
-  where
-    inside : (p : Order) → n * pages_of p + pages_of p ≤ 2 ^ 45
-    inside order.K4 = omega arith
-    inside order.M2 = omega arith
-    inside order.G1 = omega arith
-
-pub numbered-leaf : (f : Form) (c : ChainState) (x : Leaf) (n : ℕ) → x.space < 64 → n < 2 ^ 27 → x.first ≡ n * pages_of x.order → x.frame ≡ 0 → IsLeafFor (table_in f c).shape x
-numbered-leaf f c x n a b first frame = record {
-  block = subst (λ m. IsBlock (table_in f c).shape x.space m x.order) (sym first) (numbered-block f c x.space n x.order a b);
-  frames_in = (let l = low_frames x.order in omega arith);
-  frames_aligned = (0, frame ∙ none x.order);
-}
-  where
-    low_frames : (p : Order) → pages_of p ≤ 2 ^ 44
-    low_frames order.K4 = omega arith
-    low_frames order.M2 = omega arith
-    low_frames order.G1 = omega arith
-
-    none : (p : Order) → 0 ≡ 0 * pages_of p
-    none order.K4 = refl
-    none order.M2 = refl
-    none order.G1 = refl

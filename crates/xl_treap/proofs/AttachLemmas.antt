@@ -2,7 +2,7 @@
 use Rattle.xl_treap.proofs.Common.{◌*◌, ◌+◌, ◌-◌, ◌<◌, ◌==◌, ◌∙◌, ◌≡◌, ◌≤◌, ◌⊎◌, ap, arith, beyond, Bin, child, down, Each, end_key, false, graft, inl, InOrder, inr, IsAt, IsAttached, IsEmpty, IsHung, IsLined, Keeps, length, List, nat_tests, Off, on_side, parent_at, Range, range_key, refl, SameLine, SameOff, Side, side_at, side_in, slice_index, subst, suc, sym, Tip, toward, Tree, true, with_child, zero, ℕ}
 use Rattle.xl_treap.proofs.FrameLemmas.{at-keeps, Hung, hung, hung-side, off-side}
 use Rattle.xl_treap.proofs.GraftLemmas.{graft-next, lift, off-down}
-use Rattle.xl_treap.proofs.SideLemmas.{at-side}
+use Rattle.xl_treap.proofs.OrderLemmas.{at-side}
 use Rattle.xl_treap.proofs.WayLemmas.{at-there, down-next, order-down}
 
 pub same-or-not : (m n : ℕ) → (m ≡ n) ⊎ (m ≡ n → ⊥)
@@ -21,8 +21,7 @@ pub off-child : (words : List ℕ) (at low high : ℕ) (side : Side) (t : Tree) 
 off-child words at low high side Tip i h o = tt
 off-child words at low high side (Bin n x l r) i h o =
     let m : n ≡ at - 1 = let q = i.0 in omega arith in
-    let N : ℕ → Type 0 = λ z. Off z (on_side side l r) in
-    subst N m (off-side words n low high x l r (at-keeps words at (Bin n x l r) i) o side)
+    subst (λ (z : ℕ). Off z (on_side side l r)) m (off-side words n low high x l r (at-keeps words at (Bin n x l r) i) o side)
 
 hung-under : (base w new : List ℕ) (low high k p b : ℕ) (q s : Tree) → IsAt base (suc p) q → InOrder low high q → SameOff (child (toward k q) q) base w
     → IsHung w new p (side_in w p k) b → IsAt w b s → Off p s → Hung base new (toward k q) p q s
@@ -32,8 +31,7 @@ hung-under base w new low high k p b (Bin n x l r) s i o so link u off =
     let c : Side = side_at (range_key x) k in
     let keep = at-keeps base (suc p) (Bin n x l r) i in
     let G : ℕ → Type 0 = λ p. IsHung w new p (side_in w p k) b → Off p s → Hung base new c p (Bin n x l r) s in
-    let L : Side → Type 0 = λ z. IsHung w new n z b in
-    subst G m (λ link off. hung base w new low high c n b x l r s keep o so (subst L (hung-side base w new low high c n b x l r s keep o so k) link) u off
+    subst G m (λ link off. hung base w new low high c n b x l r s keep o so (subst (λ (z : Side). IsHung w new n z b) (hung-side base w new low high c n b x l r s keep o so k) link) u off
     (at-side (beyond c) base (suc p) n x l r i)) link off
 
 -- what is after a tree was attached `depth` steps down a way
@@ -49,10 +47,7 @@ pub attached : (base w new path : List ℕ) (low high root result k depth at : �
     → IsParent base path t k depth s → SameOff (down t k depth) base w → IsAt w at s → IsAttached w new root result (parent_at path depth) k at
     → Attached base new t k depth s result
 attached base w new path low high root result k zero at t s i o parent so u a =
-    let R : ℕ → Type 0 = λ z. IsAt new z s in
-    let W : List ℕ → Type 0 = λ z. IsAt z at s in
-    let O : List ℕ → Type 0 = λ z. SameOff t base z in
-    record { here = subst R (sym a.1) (subst W (sym a.0) u); off = subst O (sym a.0) so }
+    record { here = subst (λ (z : ℕ). IsAt new z s) (sym a.1) (subst (λ (z : List ℕ). IsAt z at s) (sym a.0) u); off = subst (λ (z : List ℕ). SameOff t base z) (sym a.0) so }
 attached base w new path low high root result k (suc d) at t s i o parent so u a = go (slice_index path d) (parent d refl) a
   where
     go : (q : ℕ) → IsAt base q (down t k d) × (0 < q) × Off (q - 1) s → IsAttached w new root result q k at → Attached base new t k (suc d) s result

@@ -1,7 +1,7 @@
 -- The ranges beside a key's place.
 use Rattle.xl_treap.proofs.Common.{◌*◌, ◌++◌, ◌+◌, ◌-◌, ◌<◌, ◌∙◌, ◌∷◌, ◌≡◌, ◌≤◌, [], ap, AreBeside, arith, Bin, cond, false, first_from, High, In, inl, inr, IsTree, last_below, last_or, length, link_at, List, Low, nat_lt, None, on_side, Option, pick-no, pick-yes, Range, range_key, range_of_link, ranges, refl, Side, slice_index, Some, sym, Tip, Tree, tree_at, true, ℕ}
 use Rattle.xl_treap.proofs.FoundLemmas.{tree-is}
-use Rattle.xl_treap.proofs.SideLemmas.{on-either}
+use Rattle.xl_treap.proofs.OrderLemmas.{on-either}
 use Rattle.xl_treap.proofs.UnderLemmas.{IsPlaced, IsTop, placed-tree, tip-of, top-of}
 use Rattle.xl_treap.specs.declared.beside.Beside.{Beside}
 

@@ -4,9 +4,8 @@ pub use Rattle.std.proofs.lemmas.Bool.Decides.{nat_tests}
 pub use Rattle.std.proofs.lemmas.List.{get_or-replicate, length-replicate, with_items_is}
 pub use Rattle.std.specs.List.{list_all, list_any}
 pub use Rattle.std.specs.Vec.{vec_capacity, with_items}
-pub use Rattle.xl_list_lemmas.proofs.MemberLemmas.{any-In, In-append, In-left, In-right}
+pub use Rattle.xl_list_lemmas.proofs.MemberLemmas.{any-In, In-append, In-left, In-right, pick-no, pick-yes}
 pub use Rattle.xl_list_lemmas.proofs.OnceLemmas.{once-last, once-more}
-pub use Rattle.xl_list_lemmas.proofs.SameLemmas.{pick-no, pick-yes}
 pub use Rattle.xl_list_lemmas.specs.Members.{In, Once}
 pub use Rattle.xl_model.specs.Ranges.{end_key, holds_page, is_above, is_between, is_read, range_key, reads_among}
 unfoldable pub use Rattle.xl_model.specs.Ranges.{range_reads}

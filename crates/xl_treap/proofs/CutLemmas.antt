@@ -2,7 +2,7 @@
 use Rattle.xl_treap.proofs.Common.{◌*◌, ◌+◌, ◌-◌, ◌<◌, ◌^◌, ◌∙◌, ◌≡◌, ◌≤◌, ap, arith, beyond, Bin, CanPart, child, cut, cut_by, down, Every, false, High, InOrder, is_above, IsAt, IsCut, IsHeap, IsHung, length, List, Low, Off, on_side, Over, Range, range_key, refl, SameLine, Side, side_at, side_in, slice_index, subst, suc, sym, Tip, TopOver, toward, Tree, true, with_child, ℕ}
 use Rattle.xl_treap.proofs.AboveLemmas.{above-total, over-chain}
 use Rattle.xl_treap.proofs.FrameLemmas.{at-keeps, each-map, frame, Hung, hung, linked-line, linked-three, off-side}
-use Rattle.xl_treap.proofs.SideLemmas.{at-side}
+use Rattle.xl_treap.proofs.OrderLemmas.{at-side}
 use Rattle.xl_treap.proofs.WayLemmas.{at-there, down-next, heap-down, order-down}
 
 -- what each of a tree's nodes is, each node of its two parts is
@@ -28,25 +28,20 @@ cut-more old w new at k bound top low high (Bin n x l r) c i some o parts e link
     let m : at - 1 ≡ n = let e = i.0 in omega arith in
     let z : 4 * n + 0 ≡ 4 * n = omega arith in
     let own : slice_index w (4 * n) ≡ range_key x = ap (slice_index w) (sym z) ∙ parts.but.kept n 0 (omega arith) ∙ ap (slice_index old) z ∙ i.1.key_is in
-    let N : ℕ → Type 0 = λ a. side_in w a k ≡ c in
-    let K : ℕ → Type 0 = λ a. side_at a k ≡ c in
-    let is : side_at (range_key x) k ≡ c = subst K own (subst N m e) in
-    let L : ℕ → Type 0 = λ a. IsHung w new a c (on_side (beyond c) low high) in
-    let lk : IsHung w new n c (on_side (beyond c) low high) = subst L m link in
-    let C : Side → Type 0 = λ s. IsCut old w low high k (on_side s l r) in
-    let d : IsCut old w low high k (on_side c l r) = subst C is parts in
+    let is : side_at (range_key x) k ≡ c = subst (λ (a : ℕ). side_at a k ≡ c) own (subst (λ (a : ℕ). side_in w a k ≡ c) m e) in
+    let lk : IsHung w new n c (on_side (beyond c) low high) = subst (λ (a : ℕ). IsHung w new a c (on_side (beyond c) low high)) m link in
+    let d : IsCut old w low high k (on_side c l r) = subst (λ (s : Side). IsCut old w low high k (on_side s l r)) is parts in
     let keep = at-keeps old at (Bin n x l r) i in
     let off : (s : Side) → Off n (cut s k (on_side c l r)) = (λ s. every-cut (λ m y. m ≡ n → ⊥) s k (on_side c l r) (off-side old n bound top x l r keep o c)) in
     let h : Hung old new c n (Bin n x l r) (cut (beyond c) k (on_side c l r)) =
     hung old w new bound top c n (on_side (beyond c) low high) x l r (cut (beyond c) k (on_side c l r)) keep o d.but.off lk (d.parts (beyond c)) (off (beyond c))
     (at-side (beyond c) old at n x l r i) in
-    let A : ℕ → Type 0 = λ a. IsAt new a (with_child c (Bin n x l r) (cut (beyond c) k (on_side c l r))) in
     let stay : IsAt new (on_side c low high) (cut c k (on_side c l r)) =
     frame w new (on_side c low high) (cut c k (on_side c l r)) lk.len
     (each-map (λ m. m ≡ n → ⊥) (SameLine w new) (cut c k (on_side c l r)) (λ m ne. linked-line w new n _ _ m lk ne) (off c)) (d.parts c) in
     record {
       parts = λ s. let T : Side → Type 0 = λ z. IsAt new (on_side s (on_side c low at) (on_side c at high)) (cut_by s z n x l r (cut s k l) (cut s k r)) in
-          subst T (sym is) (go c s (subst A (sym i.0) h.here) stay);
+          subst T (sym is) (go c s (subst (λ (a : ℕ). IsAt new a (with_child c (Bin n x l r) (cut (beyond c) k (on_side c l r)))) (sym i.0) h.here) stay);
       but = record { off = h.off; kept = λ m j q. linked-three w new n _ _ lk m j q ∙ d.but.kept m j q };
     }
   where
@@ -68,18 +63,15 @@ pub top-over : (old : List ℕ) (at k : ℕ) (t : Tree) → IsAt old at t → 0 
 top-over old at k Tip i some h = absurd (omega arith)
 top-over old at k (Bin n x l r) i some h =
     let m : at - 1 ≡ n = let e = i.0 in omega arith in
-    let N : ℕ → Type 0 = λ a. is_above (slice_index old (4 * a)) k ≡ true in
-    let K : ℕ → Type 0 = λ a. is_above a k ≡ true in
-    subst K i.1.key_is (subst N m h)
+    subst (λ (a : ℕ). is_above a k ≡ true) i.1.key_is (subst (λ (a : ℕ). is_above (slice_index old (4 * a)) k ≡ true) m h)
 
 -- a key that a node isn't above is over the node's tree
 pub over-tree : (old : List ℕ) (at k : ℕ) (t : Tree) → IsAt old at t → 0 < at → IsHeap t → is_above (slice_index old (4 * (at - 1))) k ≡ false → Over k t
 over-tree old at k Tip i some h n = tt
 over-tree old at k (Bin n x l r) i some h under =
     let m : at - 1 ≡ n = let e = i.0 in omega arith in
-    let N : ℕ → Type 0 = λ a. is_above (slice_index old (4 * a)) k ≡ false in
     let K : ℕ → Type 0 = λ a. is_above a k ≡ false in
-    let a : is_above k (range_key x) ≡ true = above-total (range_key x) k (subst K i.1.key_is (subst N m under)) in
+    let a : is_above k (range_key x) ≡ true = above-total (range_key x) k (subst K i.1.key_is (subst (λ (a : ℕ). is_above (slice_index old (4 * a)) k ≡ false) m under)) in
     (a, over-chain k (range_key x) l a h.0, over-chain k (range_key x) r a h.1)
 
 pub tip-of : (words : List ℕ) (t : Tree) → IsAt words 0 t → t ≡ Tip
@@ -88,8 +80,7 @@ tip-of words (Bin n x l r) i = absurd (let e = i.0 in omega arith)
 
 pub cut-none : (words : List ℕ) (k : ℕ) (t : Tree) → IsAt words 0 t → IsCut words words 0 0 k t × Over k t
 cut-none words k t i =
-    let C : Tree → Type 0 = λ s. IsCut words words 0 0 k s × Over k s in
-    subst C (sym (tip-of words t i)) (
+    subst (λ (s : Tree). IsCut words words 0 0 k s × Over k s) (sym (tip-of words t i)) (
       record {
         parts = λ s. none s;
         but = record { off = record { len = refl; same = λ m o j l. refl }; kept = λ m j l. refl };
@@ -120,22 +111,17 @@ module _ (old w path : List ℕ) (t : Tree) (k depth d low high : ℕ) (can : Ca
 
   pub part-stop : is_above (slice_index w (4 * (slice_index path (d - 1) - 1))) k ≡ true → (e : ℕ) → d ≡ suc e → TopOver k (down t k e)
   part-stop h e q =
-      let K : ℕ → Type 0 = λ a. is_above a k ≡ true in
       let m : d - 1 ≡ e = omega arith in
-      let D : ℕ → Type 0 = λ a. TopOver k (down t k a) in
-      subst D m (top-over old (slice_index path (d - 1)) k (down t k (d - 1)) top top-some (subst K own h))
+      subst (λ (a : ℕ). TopOver k (down t k a)) m (top-over old (slice_index path (d - 1)) k (down t k (d - 1)) top top-some (subst (λ (a : ℕ). is_above a k ≡ true) own h))
 
   pub part-over : is_above (slice_index w (4 * (slice_index path (d - 1) - 1))) k ≡ false → Over k (down t k (d - 1))
   part-over h =
-      let K : ℕ → Type 0 = λ a. is_above a k ≡ false in
-      over-tree old (slice_index path (d - 1)) k (down t k (d - 1)) top top-some (heap-down t k (d - 1) can.heap) (subst K own h)
+      over-tree old (slice_index path (d - 1)) k (down t k (d - 1)) top top-some (heap-down t k (d - 1) can.heap) (subst (λ (a : ℕ). is_above a k ≡ false) own h)
 
   under : IsCut old w low high k (child (toward k (down t k (d - 1))) (down t k (d - 1)))
   under =
       let m : d ≡ suc (d - 1) = omega arith in
-      let D : ℕ → Type 0 = λ a. IsCut old w low high k (down t k a) in
-      let T : Tree → Type 0 = λ s. IsCut old w low high k s in
-      subst T (down-next t k (d - 1)) (subst D m cut)
+      subst (λ (s : Tree). IsCut old w low high k s) (down-next t k (d - 1)) (subst (λ (a : ℕ). IsCut old w low high k (down t k a)) m cut)
 
   pub part-more : (new : List ℕ) (c : Side) → side_in w (slice_index path (d - 1) - 1) k ≡ c
       → IsHung w new (slice_index path (d - 1) - 1) (side_in w (slice_index path (d - 1) - 1) k) (on_side (beyond c) low high)

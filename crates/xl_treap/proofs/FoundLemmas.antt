@@ -16,8 +16,7 @@ tree-is low high d words at Tip i o h = let P : ℕ → Type 0 = λ a. tree_at d
 tree-is low high zero words at (Bin n x l r) i o h = absurd (omega (arith, sizes n x l r))
 tree-is low high (suc d) words at (Bin n x l r) (e, i, a, b) (f, p, q) h =
     let s = sizes n x l r in
-    let P : ℕ → Type 0 = λ a. tree_at (suc d) words a ≡ Bin n x l r in
-    subst P (sym e)
+    subst (λ (a : ℕ). tree_at (suc d) words a ≡ Bin n x l r) (sym e)
     (ap (λ (o : Option Range). tree_by n o (tree_at d words (link_at Low words n)) (tree_at d words (link_at High words n))) (node-said words n x i f)
     ∙ ap (λ (t : Tree). Bin n x t (tree_at d words (link_at High words n))) (tree-is low (range_key x) d words (link_at Low words n) l a p (omega arith))
     ∙ ap (λ (t : Tree). Bin n x l t) (tree-is (end_key x) high d words (link_at High words n) r b q (omega arith)))
@@ -40,8 +39,7 @@ seek-tree low high (suc left) words at (Bin n x l r) k (e, i, a, b) (f, p, q) h 
     let on : ℕ → Searched = λ next. search_from left words next k in
     let c = seek-tree low (range_key x) left words (link_at Low words n) l k a p (omega arith) in
     let d = seek-tree (end_key x) high left words (link_at High words n) r k b q (omega arith) in
-    let P : ℕ → Type 0 = λ a. search_from (suc left) words a k ≡ ended (examined (Bin n x l r) k) (end_of (found (Bin n x l r) k)) in
-    subst P (sym e)
+    subst (λ (a : ℕ). search_from (suc left) words a k ≡ ended (examined (Bin n x l r) k) (end_of (found (Bin n x l r) k))) (sym e)
     (from-visit left words n k ∙ ap (λ (v : Visit). visited v on) (visit-is words n x k i f)
     ∙ by (nat_lt k (range_key x)) (nat_lt (k - range_key x) x.pages) (one-more _ _ _ c) (one-more _ _ _ d))
   where

@@ -1,7 +1,6 @@
 -- Trees whose words stay where others change.
 use Rattle.xl_treap.proofs.Common.{◌%◌, ◌*◌, ◌+◌, ◌/◌, ◌<◌, ◌^◌, ◌∙◌, ◌≡◌, ◌≤◌, ◌⊎◌, ap, arith, beyond, Bin, Each, end_key, High, inl, InOrder, inr, IsAt, IsHung, IsLinked, IsNode, Keeps, length, link_at, List, Low, Off, on_side, Range, range_key, SameLine, SameOff, Side, side_at, side_in, slice_index, subst, suc, sym, Tip, Tree, with_child, ℕ}
-use Rattle.xl_treap.proofs.OrderLemmas.{order-le}
-use Rattle.xl_treap.proofs.SideLemmas.{at-with, hung-links, on-either}
+use Rattle.xl_treap.proofs.OrderLemmas.{at-with, hung-links, on-either, order-le}
 
 pub each-map : (P Q : ℕ → Type 0) (t : Tree) → ((m : ℕ) → P m → Q m) → Each P t → Each Q t
 each-map P Q Tip f e = tt
@@ -33,11 +32,10 @@ pub frame : (old new : List ℕ) (at : ℕ) (t : Tree) → length new ≡ length
 frame old new at Tip len s i = i
 frame old new at (Bin n x l r) len (s, p, q) (e, i, a, b) =
     let link : slice_index new (4 * n + 3) ≡ slice_index old (4 * n + 3) = s 3 (omega arith) in
-    let L : ℕ → Type 0 = λ z. IsAt new (z % 2 ^ 32) l in
     let R : ℕ → Type 0 = λ z. IsAt new (z / 2 ^ 32) r in (
       e,
       node-same old new n x len (λ j h. s j (omega arith)) i,
-      subst L (sym link) (frame old new (link_at Low old n) l len p a),
+      subst (λ (z : ℕ). IsAt new (z % 2 ^ 32) l) (sym link) (frame old new (link_at Low old n) l len p a),
       subst R (sym link) (frame old new (link_at High old n) r len q b),
     )
 
@@ -114,13 +112,11 @@ module _ (base old new : List ℕ) (low high : ℕ) (s : Side) (p b : ℕ) (x : 
       (λ m h. line-chain base old new m (so.same m h.0) (linked-line old new p _ _ m link h.1))
       (each-both (λ m. Off m (on_side s l r)) (λ m. m ≡ p → ⊥) (on_side (beyond s) l r)
       (apart-sides base p low high x l r keeps order s) (off-side base p low high x l r keeps order (beyond s))) in
-      let N : ℕ → Type 0 = λ z. IsAt new z u in
-      let F : ℕ → Type 0 = λ z. IsAt new z (on_side (beyond s) l r) in
       record {
         here = at-with s new p x l r u
             (node-same old new p x link.len (λ j h. linked-three old new p _ _ link p j h) node)
-            (subst N (sym links.0) (frame old new b u link.len (each-map (λ m. m ≡ p → ⊥) (SameLine old new) u (λ m ne. linked-line old new p _ _ m link ne) off-p) under))
-            (subst F (sym far) (frame base new (link_at (beyond s) base p) (on_side (beyond s) l r) (link.len ∙ so.len) stay a));
+            (subst (λ (z : ℕ). IsAt new z u) (sym links.0) (frame old new b u link.len (each-map (λ m. m ≡ p → ⊥) (SameLine old new) u (λ m ne. linked-line old new p _ _ m link ne) off-p) under))
+            (subst (λ (z : ℕ). IsAt new z (on_side (beyond s) l r)) (sym far) (frame base new (link_at (beyond s) base p) (on_side (beyond s) l r) (link.len ∙ so.len) stay a));
         off = record {
           len = link.len ∙ so.len;
           same = λ m o. line-chain base old new m (so.same m (on-either (Off m) s l r o.1 o.2)) (linked-line old new p _ _ m link (λ e. o.0 (sym e)));

@@ -2,8 +2,7 @@
 use Rattle.xl_treap.proofs.Common.{◌%◌, ◌++◌, ◌/◌, ◌<◌, ◌==◌, ◌^◌, ◌∙◌, ◌∷◌, ◌≡◌, ◌≤◌, ◌⊎◌, [], ap, append_assoc, arith, beyond, Bin, cond, cut, cut_by, down, Each, end_key, false, graft, High, In, In-left, In-right, inl, InOrder, inr, is_above, IsAt, IsHeap, link_at, List, Low, nat_lt, nat_tests, Off, on_side, Over, pick-no, pick-yes, Range, range_key, ranges, refl, resized, SameLine, SameOff, Side, side_at, subst, suc, sym, Tip, toward, Tree, true, with_child, with_range, without_range, zero, ℕ}
 use Rattle.xl_treap.proofs.CutLemmas.{over-cut}
 use Rattle.xl_treap.proofs.FrameLemmas.{apart-sides, at-keeps, each-map, frame, node-same, off-side}
-use Rattle.xl_treap.proofs.OrderLemmas.{order-In, side}
-use Rattle.xl_treap.proofs.SideLemmas.{at-side, at-with, on-either, order-side, side-high, side-low}
+use Rattle.xl_treap.proofs.OrderLemmas.{at-side, at-with, on-either, order-In, order-side, side, side-high, side-low}
 use Rattle.xl_treap.proofs.WayLemmas.{every-down}
 
 pub down-In : (y : Range) (t : Tree) (k d : ℕ) → In y (ranges (down t k d)) → In y (ranges t)
@@ -36,9 +35,7 @@ module _ (F : List Range → List Range) (k : ℕ) (H : List Range → Type 0)
       elim (side (range_key x) k) [
         | inl lt ↦
             let c : down (Bin n x l r) k (suc d) ≡ down r k d = ap (λ z. down (on_side z l r) k d) (side-high (range_key x) k lt) in
-            let K : Tree → Type 0 = λ t. H (ranges t) in
-            let E : Tree → Type 0 = λ t. ranges s ≡ F (ranges t) in
-            let i = graft-ranges (end_key x) high r s d o.2 (subst K c h) (subst E c e) in
+            let i = graft-ranges (end_key x) high r s d o.2 (subst (λ (t : Tree). H (ranges t)) c h) (subst (λ (t : Tree). ranges s ≡ F (ranges t)) c e) in
             ap (λ z. ranges (with_child z (Bin n x l r) (graft (on_side z l r) k d s))) (side-high (range_key x) k lt)
             ∙ ap (λ zs. ranges l ++ x ∷ zs) i
             ∙ ap (λ zs. ranges l ++ zs) (sym (in-front x (ranges r) lt))
@@ -46,8 +43,7 @@ module _ (F : List Range → List Range) (k : ℕ) (H : List Range → Type 0)
         | inr ge ↦
             let c : down (Bin n x l r) k (suc d) ≡ down l k d = ap (λ z. down (on_side z l r) k d) (side-low (range_key x) k ge) in
             let K : Tree → Type 0 = λ t. H (ranges t) in
-            let E : Tree → Type 0 = λ t. ranges s ≡ F (ranges t) in
-            let i = graft-ranges low (range_key x) l s d o.1 (subst K c h) (subst E c e) in
+            let i = graft-ranges low (range_key x) l s d o.1 (subst K c h) (subst (λ (t : Tree). ranges s ≡ F (ranges t)) c e) in
             ap (λ z. ranges (with_child z (Bin n x l r) (graft (on_side z l r) k d s))) (side-low (range_key x) k ge)
             ∙ ap (λ zs. zs ++ x ∷ ranges r) i
             ∙ sym (following (ranges l) x (ranges r) (up l d (subst K c h)) ge)

@@ -12,9 +12,8 @@ pub placed-treap : (words : List ℕ) (root nodes : ℕ) (free : List ℕ) (t : 
     → ((e : ℕ) → In e free → IsEmpty words e) → Holds words root nodes free (ranges t)
 placed-treap words root nodes free t s size count once empty =
     let e : tree_at nodes words root ≡ t = tree-is 0 (2 ^ 58) nodes words root t s.at (order-apart t s.apart) (omega arith) in
-    let P : Tree → Type 0 = λ z. IsTreap words root nodes free z in
     record {
-      treap = subst P (sym e) (record { placed = s; size = size; count = count; free_once = once; empty = empty });
+      treap = subst (λ (z : Tree). IsTreap words root nodes free z) (sym e) (record { placed = s; size = size; count = count; free_once = once; empty = empty });
       holds = ap ranges e;
     }
 
@@ -47,8 +46,7 @@ held-more old new root result nodes n front t x k m =
     let once = once-last front n k.free_once in
     let c = k.count in
     let l : length (ranges m.tree) ≡ suc (length (ranges t)) = ap length m.holds ∙ with-length x (ranges t) in
-    let P : List Range → Type 0 = λ zs. Holds new result nodes front zs in
-    subst P m.holds (placed-treap new result nodes front m.tree m.placed (m.len ∙ k.size) (omega (arith, length-append front (n ∷ []))) once.0
+    subst (λ (zs : List Range). Holds new result nodes front zs) m.holds (placed-treap new result nodes front m.tree m.placed (m.len ∙ k.size) (omega (arith, length-append front (n ∷ []))) once.0
     (λ e i. m.others e (λ q. let N : ℕ → Type 0 = λ z. In z front in once.1 (subst N q i)) (k.empty e (In-left e front (n ∷ []) i))))
 
 -- one range less, whose node is free
@@ -72,17 +70,14 @@ pub held-same : (old new : List ℕ) (root result nodes n : ℕ) (free : List �
 held-same old new root result nodes n free t held k m l was =
     let c = k.count in
     let e : length (ranges m.tree) ≡ length held = ap length m.holds in
-    let P : List Range → Type 0 = λ zs. Holds new result nodes free zs in
-    subst P m.holds (placed-treap new result nodes free m.tree m.placed (m.len ∙ k.size) (omega arith) k.free_once
+    subst (λ (zs : List Range). Holds new result nodes free zs) m.holds (placed-treap new result nodes free m.tree m.placed (m.len ∙ k.size) (omega arith) k.free_once
     (λ e i. m.others e (λ q. was (let N : ℕ → Type 0 = λ z. IsEmpty old z in subst N q (k.empty e i))) (k.empty e i)))
 
 -- a treap of words that are these
 pub kept-after : (words there : List ℕ) (root nodes count room : ℕ) (free : List ℕ) (held : List Range) → there ≡ words → count ≡ nodes → Holds words root nodes free held → nodes ≤ 2 ^ 16 + 1 → nodes ≤ room
     → IsKept there root count free room
 kept-after words there root nodes count room free held w n h few room-in =
-    let W : List ℕ → Type 0 = λ ws. IsKept ws root count free room in
-    let N : ℕ → Type 0 = λ m. IsKept words root m free room in
-    subst W (sym w) (subst N (sym n) (h.treap, few, room-in))
+    subst (λ (ws : List ℕ). IsKept ws root count free room) (sym w) (subst (λ (m : ℕ). IsKept words root m free room) (sym n) (h.treap, few, room-in))
 
 pub seen-after : (words there : List ℕ) (root nodes count loads : ℕ) (free : List ℕ) (held : List Range) → there ≡ words → count ≡ nodes → Holds words root nodes free held
     → (seen_in there root count loads).seen ≡ record { kept = held; nodes = nodes; loads = loads }

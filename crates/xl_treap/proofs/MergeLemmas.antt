@@ -1,8 +1,7 @@
 -- Two trees are made one.
 use Rattle.xl_treap.proofs.Common.{◌*◌, ◌++◌, ◌+◌, ◌-◌, ◌<◌, ◌∙◌, ◌∷◌, ◌≡◌, ◌≤◌, [], ap, append_assoc, arith, beyond, Bin, Bool, child, cond, down, end_key, Every, false, get_or-set_other, get_or-set_same, Half, High, inl, InOrder, inr, is_above, IsAt, IsHeap, length, length-set, link_at, List, Low, merge, merge_into, on_side, Over, Range, range_key, ranges, refl, side_at, slice_index, slice_set, subst, suc, sym, Tip, toward, Tree, true, ℕ}
 use Rattle.xl_treap.proofs.AboveLemmas.{above-total, over-chain}
-use Rattle.xl_treap.proofs.OrderLemmas.{of-order, order-le, order-of, order-wider, side, sizes, Within}
-use Rattle.xl_treap.proofs.SideLemmas.{side-high, side-low}
+use Rattle.xl_treap.proofs.OrderLemmas.{of-order, order-le, order-of, order-wider, side, side-high, side-low, sizes, Within}
 use Rattle.xl_treap.proofs.WayLemmas.{at-there, down-next, none-left}
 
 pub merge-none : (a : Tree) → merge a Tip ≡ a
@@ -81,8 +80,7 @@ pub record IsMerging (words path : List ℕ) (t : Tree) (k depth low high : ℕ)
 -- the way ends where one of the trees does
 pub merged-low : (words path : List ℕ) (t : Tree) (k depth low high : ℕ) → IsMerging words path t k depth low high → low ≡ 0 → IsAt words high (down t k depth)
 merged-low words path t k depth low high m z =
-    let T : Tree → Type 0 = λ s. IsAt words high s in
-    subst T (sym m.rest) (go m.first m.low_at)
+    subst (λ (s : Tree). IsAt words high s) (sym m.rest) (go m.first m.low_at)
   where
     go : (a : Tree) → IsAt words low a → IsAt words high (merge a m.second)
     go Tip i = m.high_at
@@ -90,8 +88,7 @@ merged-low words path t k depth low high m z =
 
 pub merged-high : (words path : List ℕ) (t : Tree) (k depth low high : ℕ) → IsMerging words path t k depth low high → high ≡ 0 → IsAt words low (down t k depth)
 merged-high words path t k depth low high m z =
-    let T : Tree → Type 0 = λ s. IsAt words low s in
-    subst T (sym m.rest) (go m.second m.high_at)
+    subst (λ (s : Tree). IsAt words low s) (sym m.rest) (go m.second m.high_at)
   where
     go : (b : Tree) → IsAt words high b → IsAt words low (merge m.first b)
     go Tip i = let T : Tree → Type 0 = λ s. IsAt words low s in subst T (sym (merge-none m.first)) m.low_at
@@ -108,12 +105,9 @@ more-nodes : (words path : List ℕ) (t : Tree) (k depth at : ℕ) → ((i : ℕ
     → (i : ℕ) → i < depth + 1 → Half words (slice_index (slice_set path depth at) i) k (down t k i)
 more-nodes words path t k depth at u less here i h = elim (side i depth) [
   | inl lt ↦ let ne : i ≡ depth → ⊥ = (λ q. omega arith) in
-      let A : ℕ → Type 0 = λ a. Half words a k (down t k i) in
-      subst A (sym (get_or-set_other path depth i at 0 ne)) (u i lt)
+      subst (λ (a : ℕ). Half words a k (down t k i)) (sym (get_or-set_other path depth i at 0 ne)) (u i lt)
   | inr ge ↦ let q : depth ≡ i = omega arith in
-      let A : ℕ → Type 0 = λ a. Half words a k (down t k depth) in
-      let I : ℕ → Type 0 = λ j. Half words (slice_index (slice_set path depth at) j) k (down t k j) in
-      subst I q (subst A (sym (get_or-set_same path depth at 0 less)) here)
+      subst (λ (j : ℕ). Half words (slice_index (slice_set path depth at) j) k (down t k j)) q (subst (λ (a : ℕ). Half words a k (down t k depth)) (sym (get_or-set_same path depth at 0 less)) here)
 ]
 
 -- the result of a step down, where the first tree's top is above, or the second's
@@ -129,8 +123,7 @@ merging-step words path t k depth low high (Bin n x l r) (Bin m y c d) top i j e
     let N : ℕ → Type 0 = λ z. is_above (slice_index words (4 * z)) (slice_index words (4 * (high - 1))) ≡ above in
     let M : ℕ → Type 0 = λ z. is_above (slice_index words (4 * n)) (slice_index words (4 * z)) ≡ above in
     let K : ℕ → Type 0 = λ z. is_above z (slice_index words (4 * m)) ≡ above in
-    let L : ℕ → Type 0 = λ z. is_above (range_key x) z ≡ above in
-    let s : is_above (range_key x) (range_key y) ≡ above = subst L j.1.key_is (subst K i.1.key_is (subst M hm (subst N ln q))) in
+    let s : is_above (range_key x) (range_key y) ≡ above = subst (λ (z : ℕ). is_above (range_key x) z ≡ above) j.1.key_is (subst K i.1.key_is (subst M hm (subst N ln q))) in
     let x-side : side_at (range_key x) k ≡ High = side-high (range_key x) k (let w = order-le (end_key x) k r o.2 in let some = o.0.some in omega arith) in
     let y-side : side_at (range_key y) k ≡ Low = side-low (range_key y) k (let w = order-le (suc k) (range_key y) c p.1 in omega arith) in
     let nx : suc depth ≡ depth + 1 = omega arith in
@@ -142,12 +135,11 @@ merging-step words path t k depth low high (Bin n x l r) (Bin m y c d) top i j e
         let here : down t k depth ≡ Bin n x l (merge r (Bin m y c d)) = e ∙ ap (λ z. cond z (Bin n x l (merge r (Bin m y c d))) (Bin m y (merge_into n x l r (λ z. merge r z) c) d)) s in
         let next : down t k (depth + 1) ≡ merge r (Bin m y c d) =
         ap (down t k) (sym nx) ∙ down-next t k depth ∙ ap (λ z. child (toward k z) z) here ∙ ap (λ z. on_side z l (merge r (Bin m y c d))) x-side in
-        let R : ℕ → Type 0 = λ z. IsAt words (link_at High words z) r in
         let H : Tree → Type 0 = λ z. Half words low k z in
         record {
           first = r;
           second = Bin m y c d;
-          low_at = subst R (sym ln) i.3;
+          low_at = subst (λ (z : ℕ). IsAt words (link_at High words z) r) (sym ln) i.3;
           high_at = j;
           rest = next;
           low_order = order-wider (end_key x) k 0 k r o.2 (omega arith) (omega arith);
@@ -159,13 +151,12 @@ merging-step words path t k depth low high (Bin n x l r) (Bin m y c d) top i j e
         let here : down t k depth ≡ Bin m y (merge (Bin n x l r) c) d = e ∙ ap (λ z. cond z (Bin n x l (merge r (Bin m y c d))) (Bin m y (merge_into n x l r (λ z. merge r z) c) d)) s in
         let next : down t k (depth + 1) ≡ merge (Bin n x l r) c =
         ap (down t k) (sym nx) ∙ down-next t k depth ∙ ap (λ z. child (toward k z) z) here ∙ ap (λ z. on_side z (merge (Bin n x l r) c) d) y-side in
-        let R : ℕ → Type 0 = λ z. IsAt words (link_at Low words z) c in
         let H : Tree → Type 0 = λ z. Half words high k z in
         record {
           first = Bin n x l r;
           second = c;
           low_at = i;
-          high_at = subst R (sym hm) j.2;
+          high_at = subst (λ (z : ℕ). IsAt words (link_at Low words z) c) (sym hm) j.2;
           rest = next;
           low_order = o;
           high_order = (range_key y, p.1);

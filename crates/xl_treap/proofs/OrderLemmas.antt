@@ -1,5 +1,33 @@
--- Ranges in order, as lists and as trees.
-use Rattle.xl_treap.proofs.Common.{◌++◌, ◌+◌, ◌<◌, ◌^◌, ◌∷◌, ◌≡◌, ◌≤◌, ◌⊎◌, [], arith, Bin, end_key, false, In, inl, InOrder, inr, IsApart, IsFit, length, length-append, List, nat_lt, nat_tests, Range, range_key, ranges, refl, subst, suc, sym, Tip, Tree, true, ℕ}
+-- The two sides of a node, and ranges in order, as lists and as trees.
+use Rattle.xl_treap.proofs.Common.{◌++◌, ◌+◌, ◌<◌, ◌^◌, ◌∷◌, ◌≡◌, ◌≤◌, ◌⊎◌, [], arith, beyond, Bin, end_key, false, High, In, inl, InOrder, inr, IsApart, IsAt, IsFit, IsHung, IsNode, length, length-append, link_at, List, Low, nat_lt, nat_tests, on_side, pick-no, pick-yes, Range, range_key, ranges, refl, Side, side_at, subst, suc, sym, Tip, Tree, true, with_child, ℕ}
+
+pub side-low : (own k : ℕ) → k ≤ own → side_at own k ≡ Low
+side-low own k h = pick-no own k High Low h
+
+pub side-high : (own k : ℕ) → own < k → side_at own k ≡ High
+side-high own k h = pick-yes own k High Low h
+
+pub on-either : (P : Tree → Type 0) (s : Side) (l r : Tree) → P l → P r → P (on_side s l r)
+on-either P Low l r a b = a
+on-either P High l r a b = b
+
+pub order-side : (s : Side) (low high n : ℕ) (x : Range) (l r : Tree) → InOrder low high (Bin n x l r) → (a : ℕ) × (b : ℕ) × InOrder a b (on_side s l r)
+order-side Low low high n x l r o = (low, range_key x, o.1)
+order-side High low high n x l r o = (end_key x, high, o.2)
+
+-- the links of a node in words
+pub at-side : (s : Side) (words : List ℕ) (at n : ℕ) (x : Range) (l r : Tree) → IsAt words at (Bin n x l r) → IsAt words (link_at s words n) (on_side s l r)
+at-side Low words at n x l r i = i.2
+at-side High words at n x l r i = i.3
+
+pub at-with : (s : Side) (words : List ℕ) (n : ℕ) (x : Range) (l r u : Tree) → IsNode words n x → IsAt words (link_at s words n) u
+    → IsAt words (link_at (beyond s) words n) (on_side (beyond s) l r) → IsAt words (suc n) (with_child s (Bin n x l r) u)
+at-with Low words n x l r u i a b = (refl, i, a, b)
+at-with High words n x l r u i a b = (refl, i, b, a)
+
+pub hung-links : (s : Side) (old new : List ℕ) (n at : ℕ) → IsHung old new n s at → (link_at s new n ≡ at) × (link_at (beyond s) new n ≡ link_at (beyond s) old n)
+hung-links Low old new n at h = (h.low_is, h.high_is)
+hung-links High old new n at h = (h.high_is, h.low_is)
 
 -- which of two numbers is the lesser
 pub side : (m n : ℕ) → (m < n) ⊎ (n ≤ m)
@@ -23,10 +51,6 @@ apart-within low (x ∷ xs) h (a, f, b) = (a, f, apart-within (end_key x) xs (fi
 pub within-le : (low high : ℕ) (xs : List Range) → Within low high xs → low ≤ high
 within-le low high [] h = h
 within-le low high (x ∷ xs) (a, f, b) = let c = within-le (end_key x) high xs b in let d = f.some in omega arith
-
-pub within-apart : (low high : ℕ) (xs : List Range) → Within low high xs → IsApart low xs
-within-apart low high [] h = tt
-within-apart low high (x ∷ xs) (a, f, b) = (a, f, within-apart (end_key x) high xs b)
 
 -- the parts before a range and after it
 pub within-split : (low high : ℕ) (ls : List Range) (x : Range) (rs : List Range) → Within low high (ls ++ x ∷ rs) → Within low (range_key x) ls × IsFit x × Within (end_key x) high rs

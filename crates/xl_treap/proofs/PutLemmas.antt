@@ -24,15 +24,13 @@ with-misses low x y [] h a i e = i
 with-misses low x y (r ∷ rs) h a i e =
     elim (side (range_key r) (range_key x)) [
       | inl lt ↦
-          let A : List Range → Type 0 = λ zs. IsApart low zs in
-          let b : IsApart low (r ∷ with_range x rs) = subst A (pick-yes (range_key r) (range_key x) (r ∷ with_range x rs) (x ∷ r ∷ rs) lt) a in
+          let b : IsApart low (r ∷ with_range x rs) = subst (λ (zs : List Range). IsApart low zs) (pick-yes (range_key r) (range_key x) (r ∷ with_range x rs) (x ∷ r ∷ rs) lt) a in
           elim i [
             | inl q ↦ let z : range_key y ≡ range_key r = ap (λ (w : Range). range_key w) q in omega arith
             | inr j ↦ with-misses (end_key r) x y rs (fit-end r b.1) b.2 j e
           ]
       | inr ge ↦
-          let A : List Range → Type 0 = λ zs. IsApart low zs in
-          let b : IsApart low (x ∷ r ∷ rs) = subst A (pick-no (range_key r) (range_key x) (r ∷ with_range x rs) (x ∷ r ∷ rs) ge) a in
+          let b : IsApart low (x ∷ r ∷ rs) = subst (λ (zs : List Range). IsApart low zs) (pick-no (range_key r) (range_key x) (r ∷ with_range x rs) (x ∷ r ∷ rs) ge) a in
           let w = within-In (end_key x) (2 ^ 58) y (r ∷ rs) (apart-within (end_key x) (r ∷ rs) (fit-end x b.1) b.2) i in
           let p = w.from_low in let s = b.1.some in omega arith
     ]
@@ -70,8 +68,7 @@ module _ (w0 w1 : List ℕ) (root nodes : ℕ) (t : Tree) (n : ℕ) (x : Range) 
 
       pub put-part : CanPart w1 path t (range_key x) depth
       put-part =
-          let A : ℕ → Type 0 = λ a. IsWay w1 path t (range_key x) depth a in
-          record { way = subst A put-none way; order = order; heap = can.placed.heap }
+          record { way = subst (λ (a : ℕ). IsWay w1 path t (range_key x) depth a) put-none way; order = order; heap = can.placed.heap }
 
       module _ (w2 : List ℕ) (parts : Parts) (parted : IsParted w1 w2 t (range_key x) depth parts) where
         abbrev under : Tree
@@ -150,8 +147,7 @@ module _ (w0 w1 : List ℕ) (root nodes : ℕ) (t : Tree) (n : ℕ) (x : Range) 
               let side : Side = toward (range_key x) (down t (range_key x) d) in
               let c : Off (slice_index path d - 1) (child side (down t (range_key x) d)) = off-child w1 (slice_index path d) o.0 o.1 side (down t (range_key x) d) a b o.2 in
               let P : ℕ → Type 0 = λ z. Off (slice_index path d - 1) (down t (range_key x) z) in
-              let T : Tree → Type 0 = λ z. Off (slice_index path d - 1) z in
-              let f : Off (slice_index path d - 1) under = subst P (sym e) (subst T (sym (down-next t (range_key x) d)) c) in
+              let f : Off (slice_index path d - 1) under = subst P (sym e) (subst (λ (z : Tree). Off (slice_index path d - 1) z) (sym (down-next t (range_key x) d)) c) in
               let ne : slice_index path d - 1 ≡ n → ⊥ = top-each (λ m. m ≡ n → ⊥) w1 (slice_index path d) (down t (range_key x) d) a b off-d in (
                 base-at (slice_index path d) (down t (range_key x) d) off-d a,
                 b,
@@ -193,10 +189,8 @@ heap-place : (t s : Tree) (k depth : ℕ) → IsHeap t → IsHeap s → ((d : �
     → ((y : ℕ) → is_above y k ≡ true → Over y (down t k depth) → Over y s) → IsHeap (graft t k depth s)
 heap-place t s k zero h g stop f = g
 heap-place t s k (suc d) h g stop f =
-    let F : Tree → Type 0 = λ z. (y : ℕ) → is_above y k ≡ true → Over y z → Over y s in
-    let c = heap-child k (down t k d) s (heap-down t k d h) g (stop d refl) (subst F (down-next t k d) f) in
-    let G : Tree → Type 0 = λ z. IsHeap z in
-    subst G (graft-next t s k d) (heap-graft t (with_child (toward k (down t k d)) (down t k d) s) k d h c.0 c.1).0
+    let c = heap-child k (down t k d) s (heap-down t k d h) g (stop d refl) (subst (λ (z : Tree). (y : ℕ) → is_above y k ≡ true → Over y z → Over y s) (down-next t k d) f) in
+    subst (λ (z : Tree). IsHeap z) (graft-next t s k d) (heap-graft t (with_child (toward k (down t k d)) (down t k d) s) k d h c.0 c.1).0
 
 -- what a range was put into
 pub put-made : (w0 w1 w2 w3 w4 path : List ℕ) (root nodes n depth at result : ℕ) (t : Tree) (x : Range) (parts : Parts) → (can : CanPut w0 root nodes t n x)
@@ -218,14 +212,13 @@ put-made w0 w1 w2 w3 w4 path root nodes n depth at result t x parts can lined wa
     (made-at w0 w1 root nodes t n x can lined path depth at way w2 parts parted w3 linked)
     a in
     let ranges-are : ranges (graft t k parts.depth mad) ≡ with_range x (ranges t) = whole-ranges w0 w1 root nodes t n x can lined path depth at way w2 parts parted w3 linked in
-    let A : List Range → Type 0 = λ zs. IsApart 0 zs in
     record {
       tree = graft t k parts.depth mad;
       placed = record {
         at = done.here;
         heap = heap-place t mad k parts.depth can.placed.heap (made-heap w0 w1 root nodes t n x can lined path depth at way w2 parts parted w3 linked) parted.place.stop
             (made-over w0 w1 root nodes t n x can lined path depth at way w2 parts parted w3 linked);
-        apart = subst A (sym ranges-are) can.apart;
+        apart = subst (λ (zs : List Range). IsApart 0 zs) (sym ranges-are) can.apart;
       };
       holds = ranges-are;
       len = done.off.len ∙ base-len w0 w1 root nodes t n x can lined path depth at way w2 parts parted w3 linked ∙ lined.len;

@@ -20,13 +20,11 @@ rise-node old w new low high p k at (Bin n x l r) h keep o i but link =
     let c : Side = side_at (range_key x) k in
     let m : p - 1 ≡ n = let e = h.0 in omega arith in
     let L : ℕ → Type 0 = λ z. IsHung w new z (side_in w z k) at in
-    let S : Side → Type 0 = λ z. IsHung w new n z at in
-    let lk : IsHung w new n c at = subst S (hung-side old w new low high c n at x l r (on_side c l r) keep o but.off k) (subst L m link) in
+    let lk : IsHung w new n c at = subst (λ (z : Side). IsHung w new n z at) (hung-side old w new low high c n at x l r (on_side c l r) keep o but.off k) (subst L m link) in
     let raised : Hung old new c n (Bin n x l r) (on_side c l r) =
     hung old w new low high c n at x l r (on_side c l r) keep o but.off lk i (off-side old n low high x l r keep o c) h.2 in
-    let A : ℕ → Type 0 = λ z. IsAt new z (Bin n x l r) in
     let T : Tree → Type 0 = λ z. IsAt new (suc n) z in (
-      subst A (sym h.0) (subst T (with-own c n x l r) raised.here),
+      subst (λ (z : ℕ). IsAt new z (Bin n x l r)) (sym h.0) (subst T (with-own c n x l r) raised.here),
       record { off = raised.off; kept = λ m j q. linked-three w new n _ _ lk m j q ∙ but.kept m j q },
     )
 
@@ -46,20 +44,17 @@ module _ (old w path : List ℕ) (t : Tree) (k depth d at last : ℕ) (can : Can
   rise-one new link =
       let m : d ≡ suc (d - 1) = omega arith in
       let o = order-down t k (d - 1) 0 can.order.0 can.order.1 in
-      let D : ℕ → Type 0 = λ z. IsAt w at (down t k z) in
       let E : ℕ → Type 0 = λ z. SameBut (down t k z) old w in
-      let I : Tree → Type 0 = λ z. IsAt w at z in
       let B : Tree → Type 0 = λ z. SameBut z old w in
       rise-node old w new o.0 o.1 (slice_index path (d - 1)) k at (down t k (d - 1)) half (every-down (IsNode old) t k (d - 1) can.keeps) o.2
-      (subst I (down-next t k (d - 1)) (subst D m here)) (subst B (down-next t k (d - 1)) (subst E m but)) link
+      (subst (λ (z : Tree). IsAt w at z) (down-next t k (d - 1)) (subst (λ (z : ℕ). IsAt w at (down t k z)) m here)) (subst B (down-next t k (d - 1)) (subst E m but)) link
 
 -- the spine of two trees made one can be linked
 pub can-rise : (words path : List ℕ) (low high nodes k depth at : ℕ) (pair : Pair) → CanMerge words low high nodes pair → IsSpine words path (merge pair.low pair.high) pair.key depth at → pair.key ≡ k
     → CanRise words path (merge pair.low pair.high) k depth at
 can-rise words path low high nodes k depth at pair c spine e =
-    let S : ℕ → Type 0 = λ z. IsSpine words path (merge pair.low pair.high) z depth at in
     record {
-      spine = subst S e spine;
+      spine = subst (λ (z : ℕ). IsSpine words path (merge pair.low pair.high) z depth at) e spine;
       keeps = merge-every (IsNode words) pair.low pair.high (at-keeps words low pair.low c.low_at) (at-keeps words high pair.high c.high_at);
       order = (c.high_order.0, merge-order 0 pair.key (suc pair.key) c.high_order.0 pair.low pair.high c.low_order c.high_order.1 (omega arith));
     }

@@ -29,22 +29,19 @@ loaded-more loaded n b = let e : n + 1 ≡ suc n = omega arith in rw e refl
 -- how a search ends, where `k` loads were made
 pub exit-none : (x : Searched) (k left : ℕ) (words : List ℕ) (at key : ℕ) → x ≡ loaded_before k (search_from left words at key) → at ≡ 0 → x ≡ ended k search_end.Absent
 exit-none x k left words at key h e =
-    let P : ℕ → Type 0 = λ a. x ≡ loaded_before k (search_from left words a key) in
-    subst P e h ∙ ap (loaded_before k) (from-none left words key) ∙ ap (λ (n : ℕ). ended n search_end.Absent) (add-zero k)
+    subst (λ (a : ℕ). x ≡ loaded_before k (search_from left words a key)) e h ∙ ap (loaded_before k) (from-none left words key) ∙ ap (λ (n : ℕ). ended n search_end.Absent) (add-zero k)
 
 pub exit-long : (x : Searched) (k left : ℕ) (words : List ℕ) (at key : ℕ) → x ≡ loaded_before k (search_from left words at key) → left ≡ 0 → 0 < at → x ≡ ended k search_end.TooLong
 exit-long x k left words at key h e more =
-    let P : ℕ → Type 0 = λ a. x ≡ loaded_before k (search_from a words at key) in
-    subst P e h ∙ ap (loaded_before k) (from-long words at key more) ∙ ap (λ (n : ℕ). ended n search_end.TooLong) (add-zero k)
+    subst (λ (a : ℕ). x ≡ loaded_before k (search_from a words at key)) e h ∙ ap (loaded_before k) (from-long words at key more) ∙ ap (λ (n : ℕ). ended n search_end.TooLong) (add-zero k)
 
 -- what is left after an examined node, where `i` were examined of `n`
 pub rest-visit : (x : Searched) (n i : ℕ) (words here : List ℕ) (at node key : ℕ) (v w : Visit) → x ≡ loaded_before i (search_from (n - i) words at key)
     → i < n → at ≡ suc node → v ≡ visit_of here node key → here ≡ words → v ≡ w
     → x ≡ loaded_before i (visited w (λ next. search_from (n - (i + 1)) words next key))
 rest-visit x n i words here at node key v w h less is said same f =
-    let P : List ℕ → Type 0 = λ ws. v ≡ visit_of ws node key in
     let a : n - i ≡ suc (n - (i + 1)) = omega arith in
-    let e : w ≡ visit_of words node key = sym f ∙ subst P same said in
+    let e : w ≡ visit_of words node key = sym f ∙ subst (λ (ws : List ℕ). v ≡ visit_of ws node key) same said in
     h ∙ ap (loaded_before i) (rw (a, is, e) (from-visit (n - (i + 1)) words node key))
 
 pub said-end : (x : Searched) (n : ℕ) (r : Search) → x ≡ ended n r → r ≡ x.end

@@ -5,8 +5,7 @@ use Rattle.xl_treap.proofs.FoundLemmas.{tree-is}
 use Rattle.xl_treap.proofs.FrameLemmas.{at-keeps, each-map, frame, linked-three, off-side}
 use Rattle.xl_treap.proofs.GraftLemmas.{alike, graft-resized, graft-without, Has, heap-graft, lift, resized-before, without-before}
 use Rattle.xl_treap.proofs.MergeLemmas.{merge-every, merge-heap, merge-over, merge-ranges}
-use Rattle.xl_treap.proofs.OrderLemmas.{apart-within, fit-end, order-apart, order-In, order-wider, side, sizes, within-In}
-use Rattle.xl_treap.proofs.SideLemmas.{at-side, on-either, order-side, side-high, side-low}
+use Rattle.xl_treap.proofs.OrderLemmas.{apart-within, at-side, fit-end, on-either, order-apart, order-In, order-side, order-wider, side, side-high, side-low, sizes, within-In}
 use Rattle.xl_treap.proofs.WayLemmas.{at-there, down-next, heap-down, order-down}
 
 -- lists without a range
@@ -75,8 +74,7 @@ has-child : (words : List ℕ) (at k low high : ℕ) (t : Tree) → IsAt words a
 has-child words at k low high Tip i o ne h = h
 has-child words at k low high (Bin n x l r) i o ne (y, j, e) =
     let m : n ≡ at - 1 = let z = i.0 in omega arith in
-    let N : ℕ → Type 0 = λ z. slice_index words (4 * z) ≡ k → ⊥ in
-    let M : n ≡ at - 1 → slice_index words (4 * n) ≡ k → ⊥ = (λ q. subst N (sym q) ne) in
+    let M : n ≡ at - 1 → slice_index words (4 * n) ≡ k → ⊥ = (λ q. subst (λ (z : ℕ). slice_index words (4 * z) ≡ k → ⊥) (sym q) ne) in
     let other : range_key x ≡ k → ⊥ = (λ q. M m (i.1.key_is ∙ q)) in
     let some = o.0.some in
     let R : Side → Type 0 = λ c. Has k (ranges (on_side c l r)) in
@@ -101,8 +99,7 @@ has-down : (words path : List ℕ) (t : Tree) (k depth at low high : ℕ) → Is
 has-down words path t k depth at low high way o h zero le = h
 has-down words path t k depth at low high way o h (suc d) le =
     let b = order-down t k d low high o in
-    let T : Tree → Type 0 = λ z. Has k (ranges z) in
-    subst T (sym (down-next t k d))
+    subst (λ (z : Tree). Has k (ranges z)) (sym (down-next t k d))
     (has-child words (slice_index path d) k b.0 b.1 (down t k d) (way.nodes d (omega arith)) b.2 (way.other d (omega arith)) (has-down words path t k depth at low high way o h d (omega arith)))
 
 -- The node of a key, at the end of the key's way.
@@ -171,8 +168,7 @@ module _ (w0 path : List ℕ) (root nodes : ℕ) (t : Tree) (k depth at : ℕ) (
   top-order : (a : ℕ) × (b : ℕ) × InOrder a b (Bin node range low high)
   top-order =
       let o = order-down t k depth 0 (2 ^ 58) order in
-      let T : Tree → Type 0 = λ z. InOrder o.0 o.1 z in
-      (o.0, o.1, subst T take-key.is o.2)
+      (o.0, o.1, subst (λ (z : Tree). InOrder o.0 o.1 z) take-key.is o.2)
 
   top-heap : IsHeap (Bin node range low high)
   top-heap = let T : Tree → Type 0 = λ z. IsHeap z in subst T take-key.is (heap-down t k depth can.placed.heap)
@@ -182,15 +178,13 @@ module _ (w0 path : List ℕ) (root nodes : ℕ) (t : Tree) (k depth at : ℕ) (
   parent-off d e =
       let o = order-down t k d 0 (2 ^ 58) order in
       let less : d < depth = omega arith in
-      let P : ℕ → Type 0 = λ z. Off (slice_index path d - 1) (down t k z) in
       let T : Tree → Type 0 = λ z. Off (slice_index path d - 1) z in
-      subst T take-key.is (subst P (sym e) (subst T (sym (down-next t k d))
+      subst T take-key.is (subst (λ (z : ℕ). Off (slice_index path d - 1) (down t k z)) (sym e) (subst T (sym (down-next t k d))
       (off-child w0 (slice_index path d) o.0 o.1 (toward k (down t k d)) (down t k d) (way.nodes d less) (way.some d less) o.2)))
 
   top-few : length (ranges (Bin node range low high)) ≤ nodes
   top-few =
-      let T : Tree → Type 0 = λ z. length (ranges z) ≤ nodes in
-      subst T take-key.is (fewer depth)
+      subst (λ (z : Tree). length (ranges z) ≤ nodes) take-key.is (fewer depth)
     where
       shorter : (t : Tree) (d : ℕ) → length (ranges (down t k d)) ≤ length (ranges t)
       shorter t zero = omega arith
@@ -221,14 +215,10 @@ module _ (w0 path : List ℕ) (root nodes : ℕ) (t : Tree) (k depth at : ℕ) (
       let o = top-order in
       let some = o.2.0.some in
       let e = take-key.key in
-      let L : ℕ → Type 0 = λ z. IsAt w0 (link_at Low w0 z) low in
-      let R : ℕ → Type 0 = λ z. IsAt w0 (link_at High w0 z) high in
       let C : Tree → Tree → Type 0 = λ a b. CanMerge w0 (link_at Low w0 (at - 1)) (link_at High w0 (at - 1)) nodes (record { low = a; high = b; key = k }) in
-      let A : Tree → Type 0 = λ a. C a high in
-      let B : Tree → Type 0 = λ b. C (tree_at nodes w0 (link_at Low w0 (at - 1))) b in
-      subst B (sym (under-is High)) (subst A (sym (under-is Low)) (record {
-        low_at = subst L m top-at.2;
-        high_at = subst R m top-at.3;
+      subst (λ (b : Tree). C (tree_at nodes w0 (link_at Low w0 (at - 1))) b) (sym (under-is High)) (subst (λ (a : Tree). C a high) (sym (under-is Low)) (record {
+        low_at = subst (λ (z : ℕ). IsAt w0 (link_at Low w0 z) low) m top-at.2;
+        high_at = subst (λ (z : ℕ). IsAt w0 (link_at High w0 z) high) m top-at.3;
         low_order = order-wider o.0 (range_key range) 0 k low o.2.1 (omega arith) (omega arith);
         high_order = (o.1, order-wider (end_key range) o.1 (suc k) o.1 high o.2.2 (omega arith) (omega arith));
         few = (let f = top-few in omega (arith, sizes node range low high));
@@ -237,14 +227,11 @@ module _ (w0 path : List ℕ) (root nodes : ℕ) (t : Tree) (k depth at : ℕ) (
   module _ (w1 : List ℕ) (top : ℕ) (risen : IsRisen w0 w1 (merge (tree_at nodes w0 (link_at Low w0 (at - 1))) (tree_at nodes w0 (link_at High w0 (at - 1)))) top) where
     both : IsRisen w0 w1 (merge low high) top
     both =
-        let A : Tree → Type 0 = λ a. IsRisen w0 w1 (merge a (tree_at nodes w0 (link_at High w0 (at - 1)))) top in
-        let B : Tree → Type 0 = λ b. IsRisen w0 w1 (merge low b) top in
-        subst B (under-is High) (subst A (under-is Low) risen)
+        subst (λ (b : Tree). IsRisen w0 w1 (merge low b) top) (under-is High) (subst (λ (a : Tree). IsRisen w0 w1 (merge a (tree_at nodes w0 (link_at High w0 (at - 1)))) top) (under-is Low) risen)
 
     under-off : SameOff (down t k depth) w0 w1
     under-off =
-        let T : Tree → Type 0 = λ z. SameOff z w0 w1 in
-        subst T (sym take-key.is) (record {
+        subst (λ (z : Tree). SameOff z w0 w1) (sym take-key.is) (record {
           len = both.but.off.len;
           same = λ m o. both.but.off.same m (merge-every (λ z y. z ≡ m → ⊥) low high o.1 o.2);
         })
@@ -289,9 +276,8 @@ module _ (w0 path : List ℕ) (root nodes : ℕ) (t : Tree) (k depth at : ℕ) (
       key-stays : slice_index w2 (4 * (at - 1)) ≡ k
       key-stays =
           let z : 4 * (at - 1) + 0 ≡ 4 * (at - 1) = omega arith in
-          let N : ℕ → Type 0 = λ n. slice_index w0 (4 * n) ≡ range_key range in
           ap (slice_index w2) (sym z) ∙ attached-three w1 w2 root result (parent_at path depth) k top put (at - 1) 0 (omega arith) ∙ both.but.kept (at - 1) 0 (omega arith)
-          ∙ ap (slice_index w0) z ∙ subst N gone top-at.1.key_is ∙ take-key.key
+          ∙ ap (slice_index w0) z ∙ subst (λ (n : ℕ). slice_index w0 (4 * n) ≡ range_key range) gone top-at.1.key_is ∙ take-key.key
 
       gone-off : Off (at - 1) whole
       gone-off = off-miss w2 (at - 1) k whole key-stays (at-keeps w2 result whole now.here)
@@ -299,7 +285,6 @@ module _ (w0 path : List ℕ) (root nodes : ℕ) (t : Tree) (k depth at : ℕ) (
 
       pub take-made : IsTaken w0 w3 t k result (at - 1)
       take-made =
-          let A : List Range → Type 0 = λ zs. IsApart 0 zs in
           let len : length w3 ≡ length w0 = sized.len ∙ now.off.len in
           let N : ℕ → Type 0 = λ n. slice_index w0 (4 * n + 1) ≡ range.pages in
           let pages : slice_index w0 (4 * (at - 1) + 1) ≡ range.pages = subst N gone top-at.1.pages_is in
@@ -311,7 +296,7 @@ module _ (w0 path : List ℕ) (root nodes : ℕ) (t : Tree) (k depth at : ℕ) (
               placed = record {
                 at = frame w2 w3 result whole sized.len (each-map (λ m. m ≡ at - 1 → ⊥) (SameLine w2 w3) whole (λ m ne. sized-line w2 w3 (at - 1) 0 m sized ne) gone-off) now.here;
                 heap = whole-heap;
-                apart = subst A (sym whole-ranges) (without-apart 0 k (ranges t) can.placed.apart);
+                apart = subst (λ (zs : List Range). IsApart 0 zs) (sym whole-ranges) (without-apart 0 k (ranges t) can.placed.apart);
               };
               holds = whole-ranges;
               len = len;
@@ -354,7 +339,6 @@ module _ (w0 path : List ℕ) (root nodes : ℕ) (t : Tree) (k depth at : ℕ) (
         let len = sized-node.len in
         let off = off-side w0 node o.0 o.1 range low high keep o.2 in
         let link : slice_index w1 (4 * node + 3) ≡ slice_index w0 (4 * node + 3) = sized-node.others (4 * node + 3) (λ q. omega arith) in
-        let L : ℕ → Type 0 = λ z. IsAt w1 (z % 2 ^ 32) low in
         let R : ℕ → Type 0 = λ z. IsAt w1 (z / 2 ^ 32) high in (
           top-at.0,
           record {
@@ -363,14 +347,13 @@ module _ (w0 path : List ℕ) (root nodes : ℕ) (t : Tree) (k depth at : ℕ) (
             pages_is = sized-node.is;
             word_is = sized-node.others (4 * node + 2) (λ q. omega arith) ∙ top-at.1.word_is ∙ sym same-word;
           },
-          subst L (sym link) (frame w0 w1 (link_at Low w0 node) low len (stays low (off Low)) top-at.2),
+          subst (λ (z : ℕ). IsAt w1 (z % 2 ^ 32) low) (sym link) (frame w0 w1 (link_at Low w0 node) low len (stays low (off Low)) top-at.2),
           subst R (sym link) (frame w0 w1 (link_at High w0 node) high len (stays high (off High)) top-at.3),
         )
 
     changed-off : SameOff (down t k depth) w0 w1
     changed-off =
-        let T : Tree → Type 0 = λ z. SameOff z w0 w1 in
-        subst T (sym take-key.is) (record { len = sized-node.len; same = λ m o. sized-line w0 w1 node pages m sized-node (λ e. o.0 (sym e)) })
+        subst (λ (z : Tree). SameOff z w0 w1) (sym take-key.is) (record { len = sized-node.len; same = λ m o. sized-line w0 w1 node pages m sized-node (λ e. o.0 (sym e)) })
 
     changed-is : ranges changed ≡ resized k pages (ranges (down t k depth))
     changed-is =
@@ -386,7 +369,6 @@ module _ (w0 path : List ℕ) (root nodes : ℕ) (t : Tree) (k depth at : ℕ) (
 
     pub resize-made : IsResized w0 w1 t root k pages
     resize-made =
-        let A : List Range → Type 0 = λ zs. IsApart 0 zs in
         let o = top-order in
         let some = o.2.0.some in
         let pages-are = top-at.1.pages_is in
@@ -398,7 +380,7 @@ module _ (w0 path : List ℕ) (root nodes : ℕ) (t : Tree) (k depth at : ℕ) (
             placed = record {
               at = lift w0 w1 0 (2 ^ 58) root at k depth t changed can.placed.at order way.here changed-off changed-at;
               heap = (heap-graft t changed k depth can.placed.heap top-heap (λ y p. let T : Tree → Type 0 = λ z. Over y z in subst T take-key.is p)).0;
-              apart = subst A (sym resized-is) apart;
+              apart = subst (λ (zs : List Range). IsApart 0 zs) (sym resized-is) apart;
             };
             holds = resized-is;
             len = len;

@@ -1,7 +1,6 @@
 -- What is under a link.
 use Rattle.xl_treap.proofs.Common.{◌+◌, ◌-◌, ◌<◌, ◌^◌, ◌∙◌, ◌≡◌, ap, arith, Bin, High, In, InOrder, IsAt, IsFit, IsNode, IsTree, length, link_at, List, Low, on_side, Range, range_key, range_of_link, ranges, refl, Side, Some, subst, suc, Tip, Tree, ℕ}
-use Rattle.xl_treap.proofs.OrderLemmas.{order-apart, order-In, sizes}
-use Rattle.xl_treap.proofs.SideLemmas.{at-side, order-side}
+use Rattle.xl_treap.proofs.OrderLemmas.{at-side, order-apart, order-In, order-side, sizes}
 use Rattle.xl_treap.proofs.WordLemmas.{node-said}
 
 -- a tree is in the words from a link on, in order

@@ -1,7 +1,6 @@
 -- Ways down a tree in words.
 use Rattle.xl_treap.proofs.Common.{◌*◌, ◌+◌, ◌-◌, ◌<◌, ◌∙◌, ◌≡◌, ◌≤◌, arith, Bin, child, down, Every, get_or-set_other, get_or-set_same, inl, InOrder, inr, IsAt, IsHeap, length, length-set, link_at, List, on_side, Range, range_key, ranges, refl, Side, side_at, slice_index, slice_set, step_at, subst, suc, sym, Tip, toward, Tree, zero, ℕ}
-use Rattle.xl_treap.proofs.OrderLemmas.{side, sizes}
-use Rattle.xl_treap.proofs.SideLemmas.{at-side, on-either, order-side}
+use Rattle.xl_treap.proofs.OrderLemmas.{at-side, on-either, order-side, side, sizes}
 
 pub at-there : (words : List ℕ) (at : ℕ) (t : Tree) → IsAt words at t → 0 < at → 4 * (at - 1) + 4 ≤ length words
 at-there words at Tip i h = absurd (omega arith)
@@ -17,9 +16,8 @@ pub step-child : (words : List ℕ) (at : ℕ) (t : Tree) (k : ℕ) → IsAt wor
 step-child words at Tip k i h = absurd (omega arith)
 step-child words at (Bin n x l r) k i h =
     let m : n ≡ at - 1 = let e = i.0 in omega arith in
-    let P : ℕ → Type 0 = λ z. IsAt words (step_at words z k) (on_side (side_at (range_key x) k) l r) in
     let Q : ℕ → Type 0 = λ z. IsAt words (link_at (side_at z k) words n) (on_side (side_at (range_key x) k) l r) in
-    subst P m (subst Q (sym i.1.key_is) (at-side (side_at (range_key x) k) words at n x l r i))
+    subst (λ (z : ℕ). IsAt words (step_at words z k) (on_side (side_at (range_key x) k) l r)) m (subst Q (sym i.1.key_is) (at-side (side_at (range_key x) k) words at n x l r i))
 
 pub child-less : (words : List ℕ) (at : ℕ) (t : Tree) (s : Side) → IsAt words at t → 0 < at → length (ranges (child s t)) < length (ranges t)
 child-less words at Tip s i h = absurd (omega arith)
@@ -44,41 +42,33 @@ pub up-to-more : (words path : List ℕ) (t : Tree) (k depth at : ℕ) → IsUpT
 up-to-more words path t k depth at u some unlike less =
     let e : down t k (suc depth) ≡ child (toward k (down t k depth)) (down t k depth) = down-next t k depth in
     let m : suc depth ≡ depth + 1 = omega arith in
-    let D : ℕ → Type 0 = λ d. IsAt words (step_at words (at - 1) k) (down t k d) in
     let T : Tree → Type 0 = λ s. IsAt words (step_at words (at - 1) k) s in
     let L : ℕ → Type 0 = λ d. length (ranges (down t k d)) < length (ranges (down t k depth)) in
     let S : Tree → Type 0 = λ s. length (ranges s) < length (ranges (down t k depth)) in
     let less-left : length (ranges (down t k (depth + 1))) < length (ranges (down t k depth)) = subst L m (subst S (sym e) (child-less words at (down t k depth) (toward k (down t k depth)) u.here some)) in
     let f = u.few in
     record {
-      here = subst D m (subst T (sym e) (step-child words at (down t k depth) k u.here some));
+      here = subst (λ (d : ℕ). IsAt words (step_at words (at - 1) k) (down t k d)) m (subst T (sym e) (step-child words at (down t k depth) k u.here some));
       few = (let z : length (slice_set path depth at) ≡ length path = length-set path depth at in omega arith);
       nodes = λ i h. elim (side i depth) [
         | inl lt ↦ let ne : i ≡ depth → ⊥ = (λ q. omega arith) in
-            let A : ℕ → Type 0 = λ a. IsAt words a (down t k i) in
-            subst A (sym (get_or-set_other path depth i at 0 ne)) (u.nodes i lt)
+            subst (λ (a : ℕ). IsAt words a (down t k i)) (sym (get_or-set_other path depth i at 0 ne)) (u.nodes i lt)
         | inr ge ↦ let q : depth ≡ i = omega arith in
-            let A : ℕ → Type 0 = λ a. IsAt words a (down t k depth) in
             let I : ℕ → Type 0 = λ j. IsAt words (slice_index (slice_set path depth at) j) (down t k j) in
-            subst I q (subst A (sym (get_or-set_same path depth at 0 less)) u.here)
+            subst I q (subst (λ (a : ℕ). IsAt words a (down t k depth)) (sym (get_or-set_same path depth at 0 less)) u.here)
       ];
       some = λ i h. elim (side i depth) [
         | inl lt ↦ let ne : i ≡ depth → ⊥ = (λ q. omega arith) in
-            let A : ℕ → Type 0 = λ a. 0 < a in
-            subst A (sym (get_or-set_other path depth i at 0 ne)) (u.some i lt)
+            subst (λ (a : ℕ). 0 < a) (sym (get_or-set_other path depth i at 0 ne)) (u.some i lt)
         | inr ge ↦ let q : depth ≡ i = omega arith in
-            let A : ℕ → Type 0 = λ a. 0 < a in
-            let I : ℕ → Type 0 = λ j. 0 < slice_index (slice_set path depth at) j in
-            subst I q (subst A (sym (get_or-set_same path depth at 0 less)) some)
+            subst (λ (j : ℕ). 0 < slice_index (slice_set path depth at) j) q (subst (λ (a : ℕ). 0 < a) (sym (get_or-set_same path depth at 0 less)) some)
       ];
       other = λ i h. elim (side i depth) [
         | inl lt ↦ let ne : i ≡ depth → ⊥ = (λ q. omega arith) in
-            let A : ℕ → Type 0 = λ a. slice_index words (4 * (a - 1)) ≡ k → ⊥ in
-            subst A (sym (get_or-set_other path depth i at 0 ne)) (u.other i lt)
+            subst (λ (a : ℕ). slice_index words (4 * (a - 1)) ≡ k → ⊥) (sym (get_or-set_other path depth i at 0 ne)) (u.other i lt)
         | inr ge ↦ let q : depth ≡ i = omega arith in
-            let A : ℕ → Type 0 = λ a. slice_index words (4 * (a - 1)) ≡ k → ⊥ in
             let I : ℕ → Type 0 = λ j. slice_index words (4 * (slice_index (slice_set path depth at) j - 1)) ≡ k → ⊥ in
-            subst I q (subst A (sym (get_or-set_same path depth at 0 less)) unlike)
+            subst I q (subst (λ (a : ℕ). slice_index words (4 * (a - 1)) ≡ k → ⊥) (sym (get_or-set_same path depth at 0 less)) unlike)
       ];
     }
 

@@ -13,8 +13,7 @@ IsKeptIn i = IsKept i.places.number i.cap i.places.regs i.slots.items i.used
 -- a key's slot is there, in the slots as they are lent
 pub inside-now : (i : Inside) (lent : List Entry) (key at : ℕ) → IsKeptIn i → lent ≡ i.slots.items → at ≡ slot i.places.regs i.places.number key → at < length lent
 inside-now i lent key at k e is =
-    let L : List Entry → Type 0 = λ xs. at < length xs in
-    subst L (sym e) (rw is (slot-inside i.places.number i.cap i.places.regs i.slots.items i.used key k))
+    subst (λ (xs : List Entry). at < length xs) (sym e) (rw is (slot-inside i.places.number i.cap i.places.regs i.slots.items i.used key k))
 
 -- the slots that come back
 pub items-now : (i : Inside) (back now : List Entry) → back ≡ now → length now ≡ length i.slots.items → (with_items i.slots back).items ≡ now

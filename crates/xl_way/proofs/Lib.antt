@@ -4,4 +4,3 @@ mod GrowthLemmas
 pub mod WayLemmas
 mod WordLemmas
 mod FieldLemmas
-mod PlaceLemmas

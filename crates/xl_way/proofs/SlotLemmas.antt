@@ -151,8 +151,7 @@ module _ (number : ℕ) (r : WayRegs) (xs : List Entry) (placed : ArePlaced numb
             let o : j ≡ i → ⊥ = (λ e. grind (arith, nat_tests)) in
             let same : cell (set xs i no_entry) j ≡ cell xs j = get_or-set_other xs i j no_entry no_entry o in
             let inside : j < length xs = (let n = length-set xs i no_entry in omega arith) in
-            let W : Entry → Type 0 = λ x. x.word ≡ 0 → ⊥ in
-            let is : slot r number (cell xs j).key ≡ j = placed.full j inside (subst W same full) in
+            let is : slot r number (cell xs j).key ≡ j = placed.full j inside (subst (λ (x : Entry). x.word ≡ 0 → ⊥) same full) in
             ap p same ∙ not-of (cell xs j) j is o
       ] refl
         where

@@ -1,6 +1,6 @@
 -- What a way keeps, through each of its changes, over its number, cap, registers and slots.
 use Rattle.xl_way.proofs.Common.{◌&&◌, ◌+◌, ◌<◌, ◌==◌, ◌^◌, ◌∙◌, ◌∷◌, ◌≡◌, ◌≤◌, [], ap, ArePlaced, arith, begun_regs, Bool, cell, cond, entries_of, Entry, eq-eqb, false, find, get_or-replicate, get_or-set_other, get_or-set_same, has_key, is_held, is_some, IsKept, kept_of, length, length-replicate, length-set, List, map, moved, nat_lt, nat_tests, no_entry, None, not, occupant, Option, passing, pow_mono, pow_pos, reach, refl, regs_after, replicate, reworded, set, set-get_or, slot, slots_of, Some, subst, swapped, sym, true, way_hash, WayRegs, WayShape, with_entry, with_word, without_entry, without_key, without_occupant, word_in, word_of, ℕ}
-use Rattle.xl_list_lemmas.proofs.SameLemmas.{any-find}
+use Rattle.xl_list_lemmas.proofs.MemberLemmas.{any-find}
 use Rattle.xl_way.proofs.GrowthLemmas.{after-regs, begun-are, reach-there, slot-begun, slot-empty, slot-reach, slot-stays, slot-within}
 use Rattle.xl_way.proofs.SlotLemmas.{alone-at, entries-empty, entries-set, few-entries, find-at, length-with, others, others-none, split-at, without-with}
 
@@ -90,12 +90,10 @@ placed-set number r xs at x placed less full empty = record {
     go-full : (j : ℕ) → j < length xs → ((cell (set xs at x) j).word ≡ 0 → ⊥) → (b : Bool) → (j == at) ≡ b → slot r number (cell (set xs at x) j).key ≡ j
     go-full j l f true t =
         let e : j ≡ at = grind (arith, nat_tests) in
-        let W : Entry → Type 0 = λ y. y.word ≡ 0 → ⊥ in
-        ap (λ (y : Entry). slot r number y.key) (here j e) ∙ full (subst W (here j e) f) ∙ sym e
+        ap (λ (y : Entry). slot r number y.key) (here j e) ∙ full (subst (λ (y : Entry). y.word ≡ 0 → ⊥) (here j e) f) ∙ sym e
     go-full j l f false t =
         let o : j ≡ at → ⊥ = (λ e. grind (arith, nat_tests)) in
-        let W : Entry → Type 0 = λ y. y.word ≡ 0 → ⊥ in
-        ap (λ (y : Entry). slot r number y.key) (there j o) ∙ placed.full j l (subst W (there j o) f)
+        ap (λ (y : Entry). slot r number y.key) (there j o) ∙ placed.full j l (subst (λ (y : Entry). y.word ≡ 0 → ⊥) (there j o) f)
 
     go-empty : (j : ℕ) → j < length xs → (cell (set xs at x) j).word ≡ 0 → (b : Bool) → (j == at) ≡ b → cell (set xs at x) j ≡ no_entry
     go-empty j l z true t =
@@ -305,9 +303,8 @@ module _ (number cap : ℕ) (r : WayRegs) (xs : List Entry) (used : ℕ) (k : Is
       go j l f false t =
           let o : j ≡ r.p → ⊥ = (λ e. grind (arith, nat_tests)) in
           let same : cell (set xs r.p no_entry) j ≡ cell xs j = get_or-set_other xs r.p j no_entry no_entry o in
-          let W : Entry → Type 0 = λ y. y.word ≡ 0 → ⊥ in
           ap (λ (y : Entry). slot (regs_after 1 r) number y.key) same
-          ∙ slot-stays r (way_hash number (cell xs j).key) j growing k.regs.below (k.placed.full j l (subst W same f)) o
+          ∙ slot-stays r (way_hash number (cell xs j).key) j growing k.regs.below (k.placed.full j l (subst (λ (y : Entry). y.word ≡ 0 → ⊥) same f)) o
 
   -- where the entry at the pointer goes
   goes : ℕ

@@ -1,2 +1,1 @@
 mod MatchLemmas
-mod NumberLemmas

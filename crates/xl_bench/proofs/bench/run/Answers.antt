@@ -1,6 +1,10 @@
-use Rattle.xl_bench.proofs.Common.{◌∙◌, ◌≡◌, account_of, Ends, EndsAs, machines_left, map, Says, string_bytes, sym, known_one}
+use Rattle.std.proofs.Common.{◌∙◌, ◌≡◌, map, sym}
+use Rattle.std.specs.Prelude.{string_bytes}
+use Rattle.xl_course.proofs.KnownLemmas.{known_one}
 use Rattle.xl_course.proofs.MessageLemmas.{run_says}
+use Rattle.xl_course.specs.Accounts.{Ends, EndsAs, Says}
 use Rattle.xl_bench.proofs.MachineLemmas.{no_memory_by}
+use Rattle.xl_bench.specs.Accounts.{account_of, machines_left}
 use Rattle.xl_bench.proofs.bench.run.Goals as goal
 
 pub returns-clause-said : goal.returns-clause-said

@@ -1,4 +1,4 @@
-use Rattle.xl_course.proofs.Common.{course, EndAfter, ended, Err, Files, proceeds_then, None, Reached, Serves, states_after, subst}
+use Rattle.xl_course.proofs.Common.{course, EndAfter, ended, Err, Files, None, proceeds_then, Reached, Serves, states_after, subst}
 use Rattle.xl_course.proofs.EndLemmas.{all_held, end_proceeds, late_of, report_done, serve_ends, served_still}
 use Rattle.xl_course.proofs.KnownLemmas.{is_err_by, known_one}
 use Rattle.xl_course.proofs.running.replay.Goals as goal

@@ -1,4 +1,4 @@
-use Rattle.xl_course.proofs.Common.{◌∙◌, ap, Bool, eqb, false, folder_same, folder_then, Gives, proceeds_same, proceeds_then, Proceeds, not, Numbered, Ok, Option, ran_all, Result, Stop, subst, sym, true}
+use Rattle.xl_course.proofs.Common.{◌∙◌, ap, Bool, eqb, false, folder_same, folder_then, Gives, not, Numbered, Ok, Option, Proceeds, proceeds_same, proceeds_then, ran_all, Result, Stop, subst, sym, true}
 use Rattle.xl_course.proofs.CourseLemmas.{all_steps, going_ends, going_lost, going_on, going_skims_all, going_stops, lost-any, underway_none}
 use Rattle.xl_course.proofs.EndLemmas.{put_still}
 use Rattle.xl_course.proofs.KnownLemmas.{is_err_by, known_all, known_then}

@@ -1,4 +1,4 @@
-use Rattle.xl_course.proofs.Common.{◌+◌, ◌-◌, ◌<◌, ◌∙◌, ◌≡◌, ◌≤◌, ap, arith, Bool, eqb, false, folder_same, folder_then, Gives, proceeds_same, proceeds_then, Proceeds, nat_tests, not, Numbered, Ok, Option, ran, Result, Stop, subst, sym, true}
+use Rattle.xl_course.proofs.Common.{◌+◌, ◌-◌, ◌<◌, ◌∙◌, ◌≡◌, ◌≤◌, ap, arith, Bool, eqb, false, folder_same, folder_then, Gives, nat_tests, not, Numbered, Ok, Option, Proceeds, proceeds_same, proceeds_then, ran, Result, Stop, subst, sym, true}
 use Rattle.xl_course.proofs.CourseLemmas.{going_ends, going_lost, going_on, going_skims_run, going_stops, lost-any, run_step, Steps, underway_none}
 use Rattle.xl_course.proofs.EndLemmas.{put_still}
 use Rattle.xl_course.proofs.KnownLemmas.{is_err_by, known_all, known_then}

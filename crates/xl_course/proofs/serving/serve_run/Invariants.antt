@@ -1,4 +1,4 @@
-use Rattle.xl_course.proofs.Common.{eqb, Fine, FolderAfter, Proceeds, IfSome, List, not, ran, true}
+use Rattle.xl_course.proofs.Common.{eqb, Fine, FolderAfter, IfSome, List, not, Proceeds, ran, true}
 use Rattle.xl_course.proofs.CourseLemmas.{Underway}
 use Rattle.xl_course.proofs.serving.serve_run.Given as goal
 

@@ -1,4 +1,4 @@
-use Rattle.xl_course.proofs.Common.{◌+◌, ◌≤◌, arith, commands_of, course, course_by, drop, ended, eqb, Err, folder_same, folder_then, proceeds_same, proceeds_then, length, nat_tests, None, not, Ok, ran_all, ServesPart, true}
+use Rattle.xl_course.proofs.Common.{◌+◌, ◌≤◌, arith, commands_of, course, course_by, drop, ended, eqb, Err, folder_same, folder_then, length, nat_tests, None, not, Ok, proceeds_same, proceeds_then, ran_all, ServesPart, true}
 use Rattle.xl_course.proofs.CourseLemmas.{next-left, stop_any, through_by, through_none, through_rest}
 use Rattle.xl_course.proofs.KnownLemmas.{is_err_by, known_all, known_then}
 use Rattle.xl_course.proofs.serving.serve_script.Goals as goal

@@ -1,4 +1,4 @@
-use Rattle.xl_course.proofs.Common.{commands_of, course, drop, eqb, Fine, FolderAfter, Proceeds, IfSome, not, true}
+use Rattle.xl_course.proofs.Common.{commands_of, course, drop, eqb, Fine, FolderAfter, IfSome, not, Proceeds, true}
 use Rattle.xl_course.proofs.CourseLemmas.{Through}
 use Rattle.xl_course.proofs.serving.serve_script.Given as goal
 

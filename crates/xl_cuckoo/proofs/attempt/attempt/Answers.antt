@@ -41,7 +41,6 @@ kicks-preserved c =
     ap (map displaced) c.push.ensures.items ∙ map-append displaced c.kicks.moved.items last in
     let I : Option Entry → Type 0 = λ o. IfSome o (λ d. put_at vs at d ≡ ws) in
     let A : Option Entry → Type 0 = λ o. IfSome o (λ d. occupant (state_at vs at).shape d.key ≡ Some c.kicks.hand) in
-    let F : Option Entry → Type 0 = λ o. IfSome o (λ d. 0 < d.word) in
     record {
       rest = ap (λ (l : List Displaced). attempt n (shapes vs) c.next-at.result e l) new-known
           ∙ ap (λ (a : ℕ). attempt n (shapes vs) a e (ms ++ record { key = e.key; way = a } ∷ [])) to
@@ -53,7 +52,7 @@ kicks-preserved c =
           (subst I c.in-Some.is c.swap_at.ensures.back) (subst A c.in-Some.is c.swap_at.ensures.again)
           ∙ c.kicks.invariant.back;
       inside = (let i = c.next-at.ensures.inside in omega arith);
-      full = subst F c.in-Some.is c.swap_at.ensures.full;
+      full = subst (λ (o : Option Entry). IfSome o (λ d. 0 < d.word)) c.in-Some.is c.swap_at.ensures.full;
       hands = ap (λ (a : ℕ). keys_in_hand (c.kicks._i + 1) vs a e) to
           ∙ keys-more c.kicks._i ws vs at c.kicks.hand e (let l = c.requires.few in let k = c.kicks.auto.ways in omega arith) c.kicks.invariant.inside c.swap_at.ensures.ways
           (subst I c.in-Some.is c.swap_at.ensures.back) (subst A c.in-Some.is c.swap_at.ensures.again)

@@ -1,4 +1,4 @@
-use Rattle.xl_curving.proofs.Common.{◌≡◌, AreOpened, AskedPlain, curves_by, curves_from, Ends, Err, Finds, IfSome, is_err_by, Ok, plain_of, plain_start, refl, rows_by, rows_from, start_of, subst, sym, known_one, known_then, trail_for}
+use Rattle.xl_curving.proofs.Common.{◌≡◌, AreOpened, AskedPlain, curves_by, curves_from, Ends, Err, Finds, IfSome, is_err_by, known_one, known_then, Ok, plain_of, plain_start, refl, rows_by, rows_from, start_of, subst, sym, trail_for}
 use Rattle.xl_serving.proofs.EndLemmas.{stopped_ends}
 use Rattle.xl_curving.proofs.EndLemmas.{started}
 use Rattle.xl_curving.proofs.running.report.Goals as goal

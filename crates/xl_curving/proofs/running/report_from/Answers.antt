@@ -1,4 +1,4 @@
-use Rattle.xl_curving.proofs.Common.{◌≡◌, account, can-script, course, curve_scene_of, curved, curves_text, curves_drained, Ends, false, plain_of, states_after, steps_of, known_one, trail_for, true}
+use Rattle.xl_curving.proofs.Common.{◌≡◌, account, can-script, course, curve_scene_of, curved, curves_drained, curves_text, Ends, false, known_one, plain_of, states_after, steps_of, trail_for, true}
 use Rattle.xl_curving.proofs.EndLemmas.{course-ends, fresh}
 use Rattle.xl_curving.proofs.running.report_from.Goals as goal
 

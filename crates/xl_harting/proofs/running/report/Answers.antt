@@ -1,4 +1,4 @@
-use Rattle.xl_harting.proofs.Common.{◌≡◌, account_from, Ends, Err, Finds, harts_account, harts_form, harts_left, harts_script_of, HartText, is_err_by, Ok, script_in, served_ends, Some, state_from, stopped_ends, known_one, known_then, trail_in}
+use Rattle.xl_harting.proofs.Common.{◌≡◌, account_from, Ends, Err, Finds, harts_account, harts_form, harts_left, harts_script_of, HartText, is_err_by, known_one, known_then, Ok, script_in, served_ends, Some, state_from, stopped_ends, trail_in}
 use Rattle.xl_words.specs.Words.{pair_of}
 use Rattle.xl_harting.proofs.running.report.Goals as goal
 

@@ -1,4 +1,4 @@
-use Rattle.xl_harting.proofs.Common.{◌∙◌, ◌≡◌, account, ap, course_ends, course_of, Ends, false, harts_form, meaning_of, Ok, Some, states_after, known_one, trail_in, true}
+use Rattle.xl_harting.proofs.Common.{◌∙◌, ◌≡◌, account, ap, course_ends, course_of, Ends, false, harts_form, known_one, meaning_of, Ok, Some, states_after, trail_in, true}
 use Rattle.xl_outside.specs.Folders.{file_of}
 use Rattle.xl_serving.specs.Tapes.{IsFedFrom}
 use Rattle.xl_serving.specs.Traces.{left_of, trail_of}

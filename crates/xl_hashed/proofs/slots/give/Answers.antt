@@ -1,5 +1,5 @@
 use Rattle.xl_hashed.proofs.Common.{◌∙◌, ◌≡◌, ap, arith, ChainState, entry-held, given_word, IsSet, lit<, not-held, One, set-slot, subst, sym, values_under, word-first, word_at, word_found}
-use Rattle.xl_list_lemmas.proofs.SameLemmas.{both}
+use Rattle.xl_list_lemmas.proofs.MemberLemmas.{both}
 use Rattle.xl_tagged.proofs.ChainLemmas.{found-under, IsUnderTag}
 use Rattle.xl_hashed.proofs.slots.give.Goals as goal
 

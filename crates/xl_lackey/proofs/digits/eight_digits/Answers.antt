@@ -5,7 +5,6 @@ use Rattle.xl_lackey.proofs.digits.eight_digits.Goals as goal
 
 pub returns-then-are_digits-clause-value : goal.returns-then-are_digits-clause-value
 returns-then-are_digits-clause-value c =
-    let P : List ℕ → Type 0 = λ vs. Each1 (λ d. d < 16) vs in
     lanes_number 0 (take 8 c.args.text.now) (chunk-fits w8 0 8 c.args.text.now c.type_inv.text)
-    (subst P c.lane_values-values.ensures (c.are_digits.ensures c.if-are_digits.true))
+    (subst (λ (vs : List ℕ). Each1 (λ d. d < 16) vs) c.lane_values-values.ensures (c.are_digits.ensures c.if-are_digits.true))
     ∙ ap (λ vs. Some (number_of 0 vs)) (sym c.lane_values-values.ensures) ∙ ap Some (sym c.number.ensures.value)

@@ -1,4 +1,4 @@
-use Rattle.xl_nesting.proofs.Common.{◌≡◌, account_from, Ends, Err, Finds, is_err_by, nest_script_of, nested_form, Ok, script_in, served_ends, Some, state_from, stopped_ends, known_one, known_then, trail_in}
+use Rattle.xl_nesting.proofs.Common.{◌≡◌, account_from, Ends, Err, Finds, is_err_by, known_one, known_then, nest_script_of, nested_form, Ok, script_in, served_ends, Some, state_from, stopped_ends, trail_in}
 use Rattle.xl_words.specs.Words.{pair_of}
 use Rattle.xl_nesting.specs.Accounts.{nested_account, nested_left}
 use Rattle.xl_nesting.proofs.running.report.Goals as goal

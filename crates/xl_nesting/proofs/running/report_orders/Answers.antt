@@ -1,4 +1,4 @@
-use Rattle.xl_nesting.proofs.Common.{◌∙◌, ◌≡◌, account, ap, counts_text, course, course_ends, Ends, false, is_err_by, List, map, meaning_of, nested_form, Ok, Some, states_after, step_of, known_one, trail_in, true, ℕ}
+use Rattle.xl_nesting.proofs.Common.{◌∙◌, ◌≡◌, account, ap, counts_text, course, course_ends, Ends, false, is_err_by, known_one, List, map, meaning_of, nested_form, Ok, Some, states_after, step_of, trail_in, true, ℕ}
 use Rattle.xl_outside.proofs.SinkLemmas.{proceeds_same}
 use Rattle.xl_outside.specs.Folders.{file_of}
 use Rattle.xl_serving.specs.Tapes.{IsFedFrom}

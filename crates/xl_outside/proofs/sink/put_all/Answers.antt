@@ -1,5 +1,5 @@
 use Rattle.xl_outside.proofs.Common.{◌+◌, ◌-◌, ◌∙◌, ◌≡◌, ◌≤◌, arith, drop, inl, length, subst, take, true}
-use Rattle.xl_outside.proofs.SinkLemmas.{proceeds_then, length-rest, put_proceeds, put_stops, written_on}
+use Rattle.xl_outside.proofs.SinkLemmas.{length-rest, proceeds_then, put_proceeds, put_stops, written_on}
 use Rattle.xl_outside.proofs.sink.put_all.Goals as goal
 
 pub loop-done-preserved : goal.loop-done-preserved

@@ -1,4 +1,4 @@
-use Rattle.xl_outside.proofs.Common.{◌-◌, ◌≡◌, ◌≤◌, Proceeds, length, take, true, with_more, ℕ}
+use Rattle.xl_outside.proofs.Common.{◌-◌, ◌≡◌, ◌≤◌, length, Proceeds, take, true, with_more, ℕ}
 use Rattle.xl_outside.proofs.sink.put_all.Given as goal
 
 abbrev pub invariant-loop-done : goal.invariant-loop-done

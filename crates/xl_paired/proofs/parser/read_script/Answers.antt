@@ -1,10 +1,10 @@
 use Rattle.std.specs.Prelude.{Ok}
+use Rattle.xl_course.proofs.KnownLemmas.{known_one}
 use Rattle.xl_outside.specs.Folders.{file_of}
 use Rattle.xl_outside.specs.Whole.{ReadsWhole}
-use Rattle.xl_course.proofs.KnownLemmas.{known_one}
 use Rattle.xl_serving.specs.Inputs.{Finds}
-use Rattle.xl_paired.specs.Pairs.{script_in}
 use Rattle.xl_paired.proofs.PairLemmas.{finds_text}
+use Rattle.xl_paired.specs.Pairs.{script_in}
 use Rattle.xl_paired.proofs.parser.read_script.Goals as goal
 
 pub returns-clause-known : goal.returns-clause-known

@@ -1,5 +1,5 @@
+use Rattle.xl_radix_walk.proofs.Common.{page-low}
 use Rattle.xl_radix_walk.proofs.LowestLemmas.{walk-none, walk-some}
-use Rattle.xl_radix_walk.proofs.RowLemmas.{page-low}
 use Rattle.xl_radix_walk.proofs.row.walk_lowest.Goals as goal
 
 pub look_lowest-requires : goal.look_lowest-requires

@@ -1,6 +1,6 @@
-use Rattle.xl_radix_walk.proofs.Common.{◌≤◌, arith, IsWalked, length, lit<, None, Some, Start, subst, walk_of_page}
+use Rattle.xl_radix_walk.proofs.Common.{◌≤◌, arith, IsWalked, length, lit<, None, page-low, Some, Start, subst, walk_of_page}
 use Rattle.xl_model.specs.declared.work.Walk.{Walk}
-use Rattle.xl_radix_walk.proofs.RowLemmas.{is-start, IsStart, page-low, root-at}
+use Rattle.xl_radix_walk.proofs.RowLemmas.{is-start, IsStart, root-at}
 use Rattle.xl_radix_walk.proofs.WalkedLemmas.{row-from, WalkedFrom}
 use Rattle.xl_radix_walk.proofs.row.walk_row.Goals as goal
 

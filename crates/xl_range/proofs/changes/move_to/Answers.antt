@@ -22,19 +22,15 @@ returns-then-not-put_within c =
     let m : IsMoving c.args.space c.args.first c.args.to c.args.order c.args.ranges c.args.treap.now.seen (record c.leaf_in-old.result { first = c.args.to }) = moving c.args.space c.args.first c.args.to c.args.order c.args.ranges c.args.treap.now.seen c.range_with.result c.leaf_in-old.result c.requires.whole c.range_with.ensures c.leaf_in-old.ensures c.requires.block c.requires.free in
     no-both c.args.space c.args.first c.args.to c.args.order c.args.ranges c.args.treap.now.seen c.put_within.new.treap.seen (record c.leaf_in-old.result { first = c.args.to }) m (sym c.if-not-put_within.true ∙ c.put_within.ensures.test) (c.put_within.ensures.same c.if-not-put_within.true)
 
-pub range_with-range-requires-clause-held : goal.range_with-range-requires-clause-held
-range_with-range-requires-clause-held c =
+pub range_with-range-requires : goal.range_with-range-requires
+range_with-range-requires c =
     let m : IsMoving c.args.space c.args.first c.args.to c.args.order c.args.ranges c.args.treap.now.seen (record c.leaf_in-old.result { first = c.args.to }) = moving c.args.space c.args.first c.args.to c.args.order c.args.ranges c.args.treap.now.seen c.range_with.result c.leaf_in-old.result c.requires.whole c.range_with.ensures c.leaf_in-old.ensures c.requires.block c.requires.free in
     let e = c.put_within.ensures.made c.if-not-put_within.false in
     let b : HasBoth c.args.space c.args.first c.args.to c.args.order c.args.treap.now.seen c.put_within.new.treap.seen (record c.leaf_in-old.result { first = c.args.to }) = has-both c.args.space c.args.first c.args.to c.args.order c.args.ranges c.args.treap.now.seen c.put_within.new.treap.seen (record c.leaf_in-old.result { first = c.args.to }) m e in
-    b.held
-
-pub range_with-range-requires-clause-named : goal.range_with-range-requires-clause-named
-range_with-range-requires-clause-named c =
-    let m : IsMoving c.args.space c.args.first c.args.to c.args.order c.args.ranges c.args.treap.now.seen (record c.leaf_in-old.result { first = c.args.to }) = moving c.args.space c.args.first c.args.to c.args.order c.args.ranges c.args.treap.now.seen c.range_with.result c.leaf_in-old.result c.requires.whole c.range_with.ensures c.leaf_in-old.ensures c.requires.block c.requires.free in
-    let e = c.put_within.ensures.made c.if-not-put_within.false in
-    let b : HasBoth c.args.space c.args.first c.args.to c.args.order c.args.treap.now.seen c.put_within.new.treap.seen (record c.leaf_in-old.result { first = c.args.to }) = has-both c.args.space c.args.first c.args.to c.args.order c.args.ranges c.args.treap.now.seen c.put_within.new.treap.seen (record c.leaf_in-old.result { first = c.args.to }) m e in
-    b.old_named
+    record {
+      held = b.held;
+      named = b.old_named;
+    }
 
 pub cut_within-made-requires-clause-held : goal.cut_within-made-requires-clause-held
 cut_within-made-requires-clause-held c =
@@ -43,21 +39,16 @@ cut_within-made-requires-clause-held c =
     let b : HasBoth c.args.space c.args.first c.args.to c.args.order c.args.treap.now.seen c.put_within.new.treap.seen (record c.leaf_in-old.result { first = c.args.to }) = has-both c.args.space c.args.first c.args.to c.args.order c.args.ranges c.args.treap.now.seen c.put_within.new.treap.seen (record c.leaf_in-old.result { first = c.args.to }) m e in
     b.held
 
-pub range_with-range-requires-then-not-made-clause-held : goal.range_with-range-requires-then-not-made-clause-held
-range_with-range-requires-then-not-made-clause-held c =
+pub range_with-range-requires-then-not-made : goal.range_with-range-requires-then-not-made
+range_with-range-requires-then-not-made c =
     let m : IsMoving c.args.space c.args.first c.args.to c.args.order c.args.ranges c.args.treap.now.seen (record c.leaf_in-old.result { first = c.args.to }) = moving c.args.space c.args.first c.args.to c.args.order c.args.ranges c.args.treap.now.seen c.range_with.result c.leaf_in-old.result c.requires.whole c.range_with.ensures c.leaf_in-old.ensures c.requires.block c.requires.free in
     let e = c.put_within.ensures.made c.if-not-put_within.false in
     let s = c.cut_within-made.ensures.same c.if-not-made.true in
     let b : HasBoth c.args.space c.args.first c.args.to c.args.order c.args.treap.now.seen c.cut_within-made.new.treap.seen (record c.leaf_in-old.result { first = c.args.to }) = has-both c.args.space c.args.first c.args.to c.args.order c.args.ranges c.args.treap.now.seen c.cut_within-made.new.treap.seen (record c.leaf_in-old.result { first = c.args.to }) m (s ∙ e) in
-    b.held
-
-pub range_with-range-requires-then-not-made-clause-named : goal.range_with-range-requires-then-not-made-clause-named
-range_with-range-requires-then-not-made-clause-named c =
-    let m : IsMoving c.args.space c.args.first c.args.to c.args.order c.args.ranges c.args.treap.now.seen (record c.leaf_in-old.result { first = c.args.to }) = moving c.args.space c.args.first c.args.to c.args.order c.args.ranges c.args.treap.now.seen c.range_with.result c.leaf_in-old.result c.requires.whole c.range_with.ensures c.leaf_in-old.ensures c.requires.block c.requires.free in
-    let e = c.put_within.ensures.made c.if-not-put_within.false in
-    let s = c.cut_within-made.ensures.same c.if-not-made.true in
-    let b : HasBoth c.args.space c.args.first c.args.to c.args.order c.args.treap.now.seen c.cut_within-made.new.treap.seen (record c.leaf_in-old.result { first = c.args.to }) = has-both c.args.space c.args.first c.args.to c.args.order c.args.ranges c.args.treap.now.seen c.cut_within-made.new.treap.seen (record c.leaf_in-old.result { first = c.args.to }) m (s ∙ e) in
-    b.new_named
+    record {
+      held = b.held;
+      named = b.new_named;
+    }
 
 pub cut-requires-clause-held : goal.cut-requires-clause-held
 cut-requires-clause-held c =

@@ -39,22 +39,17 @@ cut_before-requires-clause-apart c =
     let k : CanCut c.args.first c.args.order c.args.range.now c.args.treap.now.seen.kept = can-cut c.args.range.now.space c.args.first c.args.order c.args.range.now c.args.treap.now.seen.kept c.requires.held c.requires.there c.requires.place in
     k.shorter
 
-pub put_rest-requires-clause-apart : goal.put_rest-requires-clause-apart
-put_rest-requires-clause-apart c =
+pub put_rest-requires : goal.put_rest-requires
+put_rest-requires c =
     let k : CanCut c.args.first c.args.order c.args.range.now c.args.treap.now.seen.kept = can-cut c.args.range.now.space c.args.first c.args.order c.args.range.now c.args.treap.now.seen.kept c.requires.held c.requires.there c.requires.place in
     let e : kept_following (c.args.range.now.start + c.args.range.now.pages - (c.args.first + c.pages.result)) (record c.args.range.now { start = c.args.first + c.pages.result; pages = c.args.range.now.start + c.args.range.now.pages - (c.args.first + c.pages.result); frame = c.args.range.now.frame + (c.args.first + c.pages.result - c.args.range.now.start) }) c.cut_before.new.treap.seen.kept ≡ cut c.args.first c.args.order c.args.range.now c.args.treap.now.seen.kept =
     put-calls c.args.first c.pages.result c.args.order c.args.range.now c.args.treap.now.seen c.cut_before.new.treap.seen c.pages.ensures c.cut_before.ensures k in
-    let P : List Range → Type 0 = λ xs. IsApart 0 xs in
-    subst P (sym e) k.apart
-
-pub put_rest-requires-clause-room : goal.put_rest-requires-clause-room
-put_rest-requires-clause-room c =
-    let k : CanCut c.args.first c.args.order c.args.range.now c.args.treap.now.seen.kept = can-cut c.args.range.now.space c.args.first c.args.order c.args.range.now c.args.treap.now.seen.kept c.requires.held c.requires.there c.requires.place in
-    let e : kept_following (c.args.range.now.start + c.args.range.now.pages - (c.args.first + c.pages.result)) (record c.args.range.now { start = c.args.first + c.pages.result; pages = c.args.range.now.start + c.args.range.now.pages - (c.args.first + c.pages.result); frame = c.args.range.now.frame + (c.args.first + c.pages.result - c.args.range.now.start) }) c.cut_before.new.treap.seen.kept ≡ cut c.args.first c.args.order c.args.range.now c.args.treap.now.seen.kept =
-    put-calls c.args.first c.pages.result c.args.order c.args.range.now c.args.treap.now.seen c.cut_before.new.treap.seen c.pages.ensures c.cut_before.ensures k in
-    let P : List Range → Type 0 = λ xs. length xs ≤ c.cut_before.new.treap.seen.nodes in
     let Q : TreapView → Type 0 = λ t. length (cut c.args.first c.args.order c.args.range.now c.args.treap.now.seen.kept) ≤ t.nodes in
-    subst P (sym e) (subst Q (sym c.cut_before.ensures) c.requires.room)
+    record {
+      apart = subst (λ (xs : List Range). IsApart 0 xs) (sym e) k.apart;
+      room =
+          subst (λ (xs : List Range). length xs ≤ c.cut_before.new.treap.seen.nodes) (sym e) (subst Q (sym c.cut_before.ensures) c.requires.room);
+    }
 
 pub returns : goal.returns
 returns c =

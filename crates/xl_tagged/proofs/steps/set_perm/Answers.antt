@@ -4,24 +4,17 @@ use Rattle.xl_tagged.proofs.StateLemmas.{done}
 use Rattle.xl_tagged.proofs.WholeLemmas.{answered, IsNamedLeaf, IsStep, named-leaf, named-low, protect-step}
 use Rattle.xl_tagged.proofs.steps.set_perm.Goals as goal
 
-pub give-requires-clause-place : goal.give-requires-clause-place
-give-requires-clause-place g c =
+pub give-requires : goal.give-requires
+give-requires g c =
     let a = c.args in
     let f : Form = g.G.Chains.Slots.form in
     let old : ChainState = g.G.Chains.Slots.state a.chains.now in
     let low = named-low f a.space a.first a.order old a.smaller.now c.requires.whole.tagged (named-leaf f a.space a.first a.order old c.requires.named) in
-    (low.space_in, low.page_in)
-
-pub give-requires-clause-ready : goal.give-requires-clause-ready
-give-requires-clause-ready g c =
-    ready c.words_read_back.ensures g.G.Chains.Slots.form g.G.Grouping.kept (g.G.Chains.Slots.state c.args.chains.now) c.args.smaller.now c.requires.whole
-
-pub give-requires-clause-used : goal.give-requires-clause-used
-give-requires-clause-used g c =
-    let a = c.args in
-    let f : Form = g.G.Chains.Slots.form in
-    let old : ChainState = g.G.Chains.Slots.state a.chains.now in
-    named-used c.words_read_back.ensures f a.space a.first a.order old a.smaller.now c.requires.whole.tagged (named-leaf f a.space a.first a.order old c.requires.named)
+    record {
+      place = (low.space_in, low.page_in);
+      ready = ready c.words_read_back.ensures g.G.Chains.Slots.form g.G.Grouping.kept (g.G.Chains.Slots.state c.args.chains.now) c.args.smaller.now c.requires.whole;
+      used = named-used c.words_read_back.ensures f a.space a.first a.order old a.smaller.now c.requires.whole.tagged (named-leaf f a.space a.first a.order old c.requires.named);
+    }
 
 pub returns : goal.returns
 returns g c =

@@ -4,24 +4,17 @@ use Rattle.xl_tagged.proofs.StateLemmas.{done}
 use Rattle.xl_tagged.proofs.WholeLemmas.{answered, IsNamedLeaf, IsStep, named-leaf, named-low, remove-in, remove-step}
 use Rattle.xl_tagged.proofs.steps.take_out.Goals as goal
 
-pub take-requires-clause-place : goal.take-requires-clause-place
-take-requires-clause-place g c =
+pub take-requires : goal.take-requires
+take-requires g c =
     let a = c.args in
     let f : Form = g.G.Chains.Slots.form in
     let old : ChainState = g.G.Chains.Slots.state a.chains.now in
     let low = named-low f a.space a.first a.order old a.smaller.now c.requires.whole.tagged (named-leaf f a.space a.first a.order old c.requires.named) in
-    (low.space_in, low.page_in)
-
-pub take-requires-clause-ready : goal.take-requires-clause-ready
-take-requires-clause-ready g c =
-    ready c.words_read_back.ensures g.G.Chains.Slots.form g.G.Grouping.kept (g.G.Chains.Slots.state c.args.chains.now) c.args.smaller.now c.requires.whole
-
-pub take-requires-clause-used : goal.take-requires-clause-used
-take-requires-clause-used g c =
-    let a = c.args in
-    let f : Form = g.G.Chains.Slots.form in
-    let old : ChainState = g.G.Chains.Slots.state a.chains.now in
-    named-used c.words_read_back.ensures f a.space a.first a.order old a.smaller.now c.requires.whole.tagged (named-leaf f a.space a.first a.order old c.requires.named)
+    record {
+      place = (low.space_in, low.page_in);
+      ready = ready c.words_read_back.ensures g.G.Chains.Slots.form g.G.Grouping.kept (g.G.Chains.Slots.state c.args.chains.now) c.args.smaller.now c.requires.whole;
+      used = named-used c.words_read_back.ensures f a.space a.first a.order old a.smaller.now c.requires.whole.tagged (named-leaf f a.space a.first a.order old c.requires.named);
+    }
 
 pub drop_at-requires : goal.drop_at-requires
 drop_at-requires g c =

@@ -20,8 +20,7 @@ returns g c =
     let p = c.down.path in
     let u = c.down.invariant in
     let n : length p ≡ c.down.depth = omega arith in
-    let D : ℕ → Type 0 = λ d. IsUpTo c.args.words.now p g.tree c.args.key d c.down.at in
-    let v = subst D (sym n) u in
+    let v = subst (λ (d : ℕ). IsUpTo c.args.words.now p g.tree c.args.key d c.down.at) (sym n) u in
     let f = v.few in
     let none : c.down.at ≡ 0 = none-left c.args.words.now c.down.at (down g.tree c.args.key (length p)) v.here (omega arith) in
     record { short = omega arith; nodes = v.nodes; some = v.some; other = v.other; here = v.here; ends = inl none }

@@ -61,8 +61,7 @@ pub returns : goal.returns
 returns g c =
     let p = c.down.path in
     let n : c.down.depth ≡ length p = omega arith in
-    let D : ℕ → Type 0 = λ d. IsMerging c.args.words.now p (merge g.pair.low g.pair.high) g.pair.key d c.down.low c.down.high in
-    let m = subst D n c.down.invariant in
+    let m = subst (λ (d : ℕ). IsMerging c.args.words.now p (merge g.pair.low g.pair.high) g.pair.key d c.down.low c.down.high) n c.down.invariant in
     let z = merged-end c.args.words.now p (merge g.pair.low g.pair.high) g.pair.key (length p) c.down.low c.down.high m (omega arith) in
     record {
       short = omega arith;

@@ -21,8 +21,7 @@ pub join-at-requires : goal.join-at-requires
 join-at-requires g c =
     let a = c.args in let w = c.descend-way.result in let W = a.words.now in
     let N = length c.descend-way.new.path in
-    let T : ℕ → Type 0 = λ n. CanTake W a.root n g.tree a.key in
-    let can = subst T (sym c.descend-way.auto.path) c.requires in
+    let can = subst (λ (n : ℕ). CanTake W a.root n g.tree a.key) (sym c.descend-way.auto.path) c.requires in
     let p = take-pair W c.descend-way.new.path a.root N g.tree a.key w.depth w.at can c.descend-way.ensures in
     let L : ℕ → Type 0 = λ l. CanMerge W l (link_at High W (w.at - 1)) N (record { low = tree_at N W l; high = tree_at N W (link_at High W (w.at - 1)); key = a.key }) in
     let R : ℕ → Type 0 = λ r. CanMerge W c.link_of-low.result r N (record { low = tree_at N W c.link_of-low.result; high = tree_at N W r; key = a.key }) in
@@ -32,13 +31,11 @@ pub attach-root-requires : goal.attach-root-requires
 attach-root-requires g c =
     let a = c.args in let w = c.descend-way.result in let W = a.words.now in
     let N = length c.descend-way.new.path in
-    let T : ℕ → Type 0 = λ n. CanTake W a.root n g.tree a.key in
-    let can = subst T (sym c.descend-way.auto.path) c.requires in
+    let can = subst (λ (n : ℕ). CanTake W a.root n g.tree a.key) (sym c.descend-way.auto.path) c.requires in
     let L : ℕ → Type 0 = λ l. IsRisen W c.join-at.new.words (merge (tree_at N W l) (tree_at N W c.link_of-high.result)) c.join-at.result in
     let R : ℕ → Type 0 = λ r. IsRisen W c.join-at.new.words (merge (tree_at N W (link_at Low W (w.at - 1))) (tree_at N W r)) c.join-at.result in
     let risen = subst R c.link_of-high.ensures (subst L c.link_of-low.ensures c.join-at.ensures) in
-    let P : ℕ → Type 0 = λ p. 4 * p ≤ length c.join-at.new.words in
-    subst P (sym c.parent_of-parent.ensures)
+    subst (λ (p : ℕ). 4 * p ≤ length c.join-at.new.words) (sym c.parent_of-parent.ensures)
     (take-room W c.descend-way.new.path a.root N g.tree a.key w.depth w.at can c.descend-way.ensures c.join-at.new.words c.join-at.result risen)
 
 pub set_pages-requires : goal.set_pages-requires
@@ -51,8 +48,7 @@ pub returns : goal.returns
 returns g c =
     let a = c.args in let w = c.descend-way.result in let W = a.words.now in
     let N = length c.descend-way.new.path in
-    let T : ℕ → Type 0 = λ n. CanTake W a.root n g.tree a.key in
-    let can = subst T (sym c.descend-way.auto.path) c.requires in
+    let can = subst (λ (n : ℕ). CanTake W a.root n g.tree a.key) (sym c.descend-way.auto.path) c.requires in
     let L : ℕ → Type 0 = λ l. IsRisen W c.join-at.new.words (merge (tree_at N W l) (tree_at N W c.link_of-high.result)) c.join-at.result in
     let R : ℕ → Type 0 = λ r. IsRisen W c.join-at.new.words (merge (tree_at N W (link_at Low W (w.at - 1))) (tree_at N W r)) c.join-at.result in
     let risen = subst R c.link_of-high.ensures (subst L c.link_of-low.ensures c.join-at.ensures) in

@@ -1,6 +1,6 @@
 use Rattle.xl_treap.proofs.Common.{◌-◌, ◌∙◌, ◌≤◌, arith, down, High, IsCut, List, Low, Over, Parts, slice_index, subst, sym, ℕ}
 use Rattle.xl_treap.proofs.CutLemmas.{cut-none, part-more, part-over, part-stop, part-there}
-use Rattle.xl_treap.proofs.SideLemmas.{side-high, side-low}
+use Rattle.xl_treap.proofs.OrderLemmas.{side-high, side-low}
 use Rattle.xl_treap.proofs.parting.part.Goals.{else-own-key, then-own-key}
 use Rattle.xl_treap.proofs.parting.part.Goals as goal
 
@@ -49,13 +49,11 @@ loop-parts-preserved g c =
     let done : C c.if-own-key.words c.if-own-key.parts = (elim c.if-own-key.branch [
       | then-own-key w ↦
           let cut = more w.hang.new.words High (side-high _ k w.if-own-key.true) w.hang.ensures in
-          let W : List ℕ → Type 0 = λ ws. C ws (record p { low = slice_index c.args.path.now (p.depth - 1) }) in
           let P : Parts → Type 0 = λ q. C c.if-own-key.words q in
-          subst P (sym w.parts-is) (subst W (sym w.words-is) (short, cut, over))
+          subst P (sym w.parts-is) (subst (λ (ws : List ℕ). C ws (record p { low = slice_index c.args.path.now (p.depth - 1) })) (sym w.words-is) (short, cut, over))
       | else-own-key w ↦
           let cut = more w.hang-else-own-key.new.words Low (side-low _ k w.if-own-key.false) w.hang-else-own-key.ensures in
-          let W : List ℕ → Type 0 = λ ws. C ws (record p { high = slice_index c.args.path.now (p.depth - 1) }) in
           let P : Parts → Type 0 = λ q. C c.if-own-key.words q in
-          subst P (sym w.parts-is) (subst W (sym w.words-is) (short, cut, over))
+          subst P (sym w.parts-is) (subst (λ (ws : List ℕ). C ws (record p { high = slice_index c.args.path.now (p.depth - 1) })) (sym w.words-is) (short, cut, over))
     ]) in
     record { short = done.0; cut = done.1; over = done.2 }

@@ -23,11 +23,9 @@ pub part-parts-requires : goal.part-parts-requires
 part-parts-requires g c =
     let a = c.args in
     let w = c.descend-way.result in
-    let W : ℕ → Type 0 = λ k. IsWay c.set_line.new.words c.descend-way.new.path g.tree k w.depth w.at in
-    let P : ℕ → Type 0 = λ k. CanPart c.set_line.new.words c.descend-way.new.path g.tree k w.depth in
-    subst P (sym c.key_of-key.ensures)
+    subst (λ (k : ℕ). CanPart c.set_line.new.words c.descend-way.new.path g.tree k w.depth) (sym c.key_of-key.ensures)
     (put-part a.words.now c.set_line.new.words a.root (length a.path.now) g.tree a.node a.range c.requires c.set_line.ensures
-    c.descend-way.new.path w.depth w.at (subst W c.key_of-key.ensures c.descend-way.ensures))
+    c.descend-way.new.path w.depth w.at (subst (λ (k : ℕ). IsWay c.set_line.new.words c.descend-way.new.path g.tree k w.depth w.at) c.key_of-key.ensures c.descend-way.ensures))
 
 pub parent_of-parent-requires : goal.parent_of-parent-requires
 parent_of-parent-requires g c = let s = c.part-parts.ensures.short in let t = c.descend-way.ensures.short in omega arith
@@ -42,8 +40,7 @@ attach-requires g c =
     let k = c.key_of-key.ensures in
     let W : ℕ → Type 0 = λ k. IsWay c.set_line.new.words c.descend-way.new.path g.tree k w.depth w.at in
     let P : ℕ → Type 0 = λ k. IsParted c.set_line.new.words c.part-parts.new.words g.tree k w.depth c.part-parts.result in
-    let R : ℕ → Type 0 = λ p. 4 * p ≤ length c.set_links.new.words in
-    subst R (sym c.parent_of-parent.ensures)
+    subst (λ (p : ℕ). 4 * p ≤ length c.set_links.new.words) (sym c.parent_of-parent.ensures)
     (put-room a.words.now c.set_line.new.words a.root (length a.path.now) g.tree a.node a.range c.requires c.set_line.ensures
     c.descend-way.new.path w.depth w.at (subst W k c.descend-way.ensures) c.part-parts.new.words c.part-parts.result (subst P k c.part-parts.ensures) c.set_links.new.words c.set_links.ensures)
 

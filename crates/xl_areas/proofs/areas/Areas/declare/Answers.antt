@@ -9,8 +9,7 @@ cut-requires-2-clause-rising c = subst (AreRising 0) (sym c.cut.ensures.cut) (cu
 
 pub cut-requires-2-clause-room : goal.cut-requires-2-clause-room
 cut-requires-2-clause-room c =
-    let P : List Area → Type 0 = λ xs. length xs < 256 in
-    let few : length c.self.inside.areas.items < 256 = subst P (sym c.self.view_is) c.requires in
+    let few : length c.self.inside.areas.items < 256 = subst (λ (xs : List Area). length xs < 256) (sym c.self.view_is) c.requires in
     omega (arith, few, ap length c.cut.ensures.cut, cut-length c.key_of.result None c.self.inside.bounds.items, c.self.invariant.index.two, c.self.invariant.more, c.cut.ensures.room)
 
 pub invariant_of-self : goal.invariant_of-self

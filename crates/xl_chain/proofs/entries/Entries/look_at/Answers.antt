@@ -5,10 +5,8 @@ use Rattle.xl_chain.proofs.entries.Entries.look_at.Goals as goal
 pub found_from-requires-clause-leads : goal.found_from-requires-clause-leads
 found_from-requires-clause-leads g c =
     let s = c.self.inside in
-    let P : ChainState → Type 0 = λ v. IsPlace v c.args.place in
-    let k = subst P (sym c.self.view_is) c.requires in
-    let L : List ℕ → Type 0 = λ ws. Leads s.shape ws c.args.place in
-    subst L (sym c.deref.ensures.value) (leads-at s.shape s.words.items s.free.items k.tag c.args.place c.self.invariant.0 k.is)
+    let k = subst (λ (v : ChainState). IsPlace v c.args.place) (sym c.self.view_is) c.requires in
+    subst (λ (ws : List ℕ). Leads s.shape ws c.args.place) (sym c.deref.ensures.value) (leads-at s.shape s.words.items s.free.items k.tag c.args.place c.self.invariant.0 k.is)
 
 pub returns : goal.returns
 returns g c =

@@ -7,8 +7,7 @@ use Rattle.xl_chain.proofs.entries.Entries.probe.Goals as goal
 pub search-sought-requires-clause-linked : goal.search-sought-requires-clause-linked
 search-sought-requires-clause-linked g c =
     let s = c.self.inside in
-    let L : List ℕ → Type 0 = λ ws. AreLinked s.shape ws in
-    subst L (sym c.deref.ensures.value) (are-linked s.shape s.words.items s.free.items c.self.invariant.0)
+    subst (λ (ws : List ℕ). AreLinked s.shape ws) (sym c.deref.ensures.value) (are-linked s.shape s.words.items s.free.items c.self.invariant.0)
 
 pub returns-clause-end : goal.returns-clause-end
 returns-clause-end g c =

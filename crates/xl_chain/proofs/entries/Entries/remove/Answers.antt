@@ -15,5 +15,4 @@ remove_at-requires g c =
     let s = c.self.inside in
     let P : ℕ → Type 0 = λ b. tag_place s.words.items s.shape b c.args.tag ≡ Some c.in-Some.place in
     let k = subst P c.bucket_of-bucket.ensures.is (sym (c.place_of.ensures ∙ ap (λ ws. tag_place ws s.shape c.bucket_of-bucket.result c.args.tag) c.deref.ensures.value) ∙ c.in-Some.is) in
-    let Q : ChainState → Type 0 = λ v. place_at v c.args.tag ≡ Some c.in-Some.place in
-    (lit< tt, record { tag = c.args.tag; is = subst Q c.self.view_is k })
+    (lit< tt, record { tag = c.args.tag; is = subst (λ (v : ChainState). place_at v c.args.tag ≡ Some c.in-Some.place) c.self.view_is k })

@@ -7,8 +7,7 @@ use Rattle.xl_chain.proofs.entries.Entries.value.Goals as goal
 pub value_at-requires-clause-entry : goal.value_at-requires-clause-entry
 value_at-requires-clause-entry g c =
     let s = c.self.inside in
-    let H : ChainState → Type 0 = λ v. list_any (is_entry c.args.entry) v.held ≡ true in
-    held-inside s.shape s.words.items s.free.items c.args.entry c.self.invariant.0 (subst H (sym c.self.view_is) c.requires.held)
+    held-inside s.shape s.words.items s.free.items c.args.entry c.self.invariant.0 (subst (λ (v : ChainState). list_any (is_entry c.args.entry) v.held ≡ true) (sym c.self.view_is) c.requires.held)
 
 -- the word is there
 inside-words : (s : ChainShape) (words free : List ℕ) (e i at : ℕ) → IsTable s words free → e < s.entries → i + 3 < 4 * s.lines → at ≡ place_of_value s e i → at < length words
@@ -22,8 +21,7 @@ pub index-requires : goal.index-requires
 index-requires g c =
     let s = c.self.inside in
     let t = c.self.invariant.0 in
-    let H : ChainState → Type 0 = λ v. list_any (is_entry c.args.entry) v.held ≡ true in
-    let inside = held-inside s.shape s.words.items s.free.items c.args.entry t (subst H (sym c.self.view_is) c.requires.held) in
+    let inside = held-inside s.shape s.words.items s.free.items c.args.entry t (subst (λ (v : ChainState). list_any (is_entry c.args.entry) v.held ≡ true) (sym c.self.view_is) c.requires.held) in
     let within : c.args.i + 3 < 4 * s.shape.lines = (let k = c.requires.within in let l = c.self.invariant.1 in omega arith) in
     let l = inside-words s.shape s.words.items s.free.items c.args.entry c.args.i c.value_at.result t inside within c.value_at.ensures in
     let ok = s.words.ok.0 in

@@ -6,11 +6,8 @@ use Rattle.xl_chain.proofs.entries.Entries.words_read_back.Goals as goal
 pub returns : goal.returns
 returns g c =
     let s = c.self.inside in
-    let W : ChainState → Type 0 = λ v. WordsReadBack v in
-    let S : ChainState → Type 0 = λ v. AreSingle v.held in
-    let P : ChainState → Type 0 = λ v. (t : ℕ) → is_some (place_at v t) ≡ has_tag (tags_of v.held) t in
     record {
-      words = subst W c.self.view_is (read-back s.shape s.words.items s.free.items s.loads c.self.invariant.0);
-      single = subst S c.self.view_is (held-single s.shape s.words.items s.free.items c.self.invariant.0);
-      places = subst P c.self.view_is (λ t. placed-held s.shape s.words.items s.free.items t c.self.invariant.0);
+      words = subst (λ (v : ChainState). WordsReadBack v) c.self.view_is (read-back s.shape s.words.items s.free.items s.loads c.self.invariant.0);
+      single = subst (λ (v : ChainState). AreSingle v.held) c.self.view_is (held-single s.shape s.words.items s.free.items c.self.invariant.0);
+      places = subst (λ (v : ChainState). (t : ℕ) → is_some (place_at v t) ≡ has_tag (tags_of v.held) t) c.self.view_is (λ t. placed-held s.shape s.words.items s.free.items t c.self.invariant.0);
     }

@@ -8,8 +8,7 @@ invariant_of-self g c =
     let s = c.self.inside in
     let vs : List WayState = c.insert.new.ways in
     let same : length vs ≡ length s.ways.items = c.insert.auto.ways ∙ ap length c.deref_mut.ensures.value in
-    let I : List WayState → Type 0 = λ us. IsTable g.row.D s.rules.threshold s.rules.kick_limit (shapes us) in
-    subst I (sym (items-back s.ways vs vs refl same))
+    subst (λ (us : List WayState). IsTable g.row.D s.rules.threshold s.rules.kick_limit (shapes us)) (sym (items-back s.ways vs vs refl same))
     (table-with g.row.D s.rules.threshold s.rules.kick_limit (shapes s.ways.items) (shapes vs) c.self.invariant
     (map-length (λ (w : WayState). w.shape) vs ∙ same ∙ sym (map-length (λ (w : WayState). w.shape) s.ways.items)) c.insert.ensures.once)
 
@@ -19,10 +18,8 @@ returns-clause-added g c =
     let vs : List WayState = c.insert.new.ways in
     let same : length vs ≡ length s.ways.items = c.insert.auto.ways ∙ ap length c.deref_mut.ensures.value in
     let x : Entry = record { key = c.args.key; word = c.args.word } in
-    let N : List WayState → Type 0 = λ us. OnOk c.insert.result (AddsEntry x c.args.self.now.ways (shapes us)) in
-    let O : List WayShape → Type 0 = λ us. OnOk c.insert.result (AddsEntry x us (shapes vs)) in
-    subst N (sym (items-back s.ways vs vs refl same))
-    (subst O (ap shapes c.deref_mut.ensures.value ∙ ap (λ (t : CuckooState). t.ways) c.self.view_is) c.insert.ensures.added)
+    subst (λ (us : List WayState). OnOk c.insert.result (AddsEntry x c.args.self.now.ways (shapes us))) (sym (items-back s.ways vs vs refl same))
+    (subst (λ (us : List WayShape). OnOk c.insert.result (AddsEntry x us (shapes vs))) (ap shapes c.deref_mut.ensures.value ∙ ap (λ (t : CuckooState). t.ways) c.self.view_is) c.insert.ensures.added)
 
 pub returns-clause-err : goal.returns-clause-err
 returns-clause-err g c =

@@ -11,8 +11,7 @@ invariant_of-self g c =
     let ws : List WayState = s.ways.items in
     let items : (with_items s.ways c.remove.new.ways).items ≡ map (changed_by f) ws =
     items-back s.ways c.remove.new.ways (map (changed_by f) ws) (c.remove.ensures ∙ ap (map (changed_by f)) c.deref_mut.ensures.value) (length-map ws (changed_by f)) in
-    let I : List WayShape → Type 0 = λ vs. IsTable g.row.D s.rules.threshold s.rules.kick_limit vs in
-    subst I (sym (ap shapes items ∙ shapes-map f ws))
+    subst (λ (vs : List WayShape). IsTable g.row.D s.rules.threshold s.rules.kick_limit vs) (sym (ap shapes items ∙ shapes-map f ws))
     (table-with g.row.D s.rules.threshold s.rules.kick_limit (shapes ws) (map f (shapes ws)) c.self.invariant (length-map (shapes ws) f) (once-cleared c.args.key (shapes ws) c.self.invariant.once))
 
 pub returns : goal.returns

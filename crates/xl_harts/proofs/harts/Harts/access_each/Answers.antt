@@ -20,20 +20,14 @@ invariant_of-self c =
     let served : AreServed c.args.accesses.now s c.serve_each.result (row_table 3 c.serve_each.new.table) c.serve_each.new.hart = c.serve_each.ensures s current in
     served-harts c.args.accesses.now s c.serve_each.result (row_table 3 c.serve_each.new.table) c.serve_each.new.hart i.requests.capacity i.frames served c.self.invariant
 
-pub returns-clause-reply : goal.returns-clause-reply
-returns-clause-reply c =
+pub returns : goal.returns
+returns c =
     let i = c.self.inside in
     let s : HartsState = state_of i.spec (row_table 3 i.table) i.requests.items i.harts.items i.current i.accepted i.refused in
     let at = c.index_mut-hart.ensures.value ∙ same-place i.harts.items i.current c.index_mut-hart.result.now (opening_hart i.spec) c.self.invariant.kept.current_in in
     let current : IsCurrent s (row_table 3 i.table) c.index_mut-hart.result.now = record { kept = c.self.invariant.kept; table_is = refl; hart_is = at } in
     let served : AreServed c.args.accesses.now s c.serve_each.result (row_table 3 c.serve_each.new.table) c.serve_each.new.hart = c.serve_each.ensures s current in
-    rw (← c.self.view_is) served.reply_is
-
-pub returns-clause-after : goal.returns-clause-after
-returns-clause-after c =
-    let i = c.self.inside in
-    let s : HartsState = state_of i.spec (row_table 3 i.table) i.requests.items i.harts.items i.current i.accepted i.refused in
-    let at = c.index_mut-hart.ensures.value ∙ same-place i.harts.items i.current c.index_mut-hart.result.now (opening_hart i.spec) c.self.invariant.kept.current_in in
-    let current : IsCurrent s (row_table 3 i.table) c.index_mut-hart.result.now = record { kept = c.self.invariant.kept; table_is = refl; hart_is = at } in
-    let served : AreServed c.args.accesses.now s c.serve_each.result (row_table 3 c.serve_each.new.table) c.serve_each.new.hart = c.serve_each.ensures s current in
-    rw (← c.self.view_is) (served-placed c.args.accesses.now s c.serve_each.result (row_table 3 c.serve_each.new.table) c.serve_each.new.hart served)
+    record {
+      reply = rw (← c.self.view_is) served.reply_is;
+      after = rw (← c.self.view_is) (served-placed c.args.accesses.now s c.serve_each.result (row_table 3 c.serve_each.new.table) c.serve_each.new.hart served);
+    }

@@ -12,43 +12,29 @@ unreachable-requires c =
     let ruled : refusal_of (event.Map c.args.space c.args.va c.args.order c.args.perm) s ≡ None = rw (← c.self.view_is) at c.requires in
     map-finds s c.self.invariant.kept c.args.space c.args.va c.args.order c.args.perm ruled i.frames c.self.invariant.pool_is c.in_default.ensures.none
 
-pub insert-requires-clause-valid : goal.insert-requires-clause-valid
-insert-requires-clause-valid c =
+pub insert-requires : goal.insert-requires
+insert-requires c =
     let i = c.self.inside in
     let s : HartsState = state_of i.spec (row_table 3 i.table) i.requests.items i.harts.items i.current i.accepted i.refused in
     let ruled : refusal_of (event.Map c.args.space c.args.va c.args.order c.args.perm) s ≡ None = rw (← c.self.view_is) at c.requires in
     let new = map-new s c.self.invariant.kept c.args.space c.args.va c.args.order c.args.perm ruled i.frames c.self.invariant.pool_is c.in-Some.frame c.in-Some.ensures.lowest in
-    rw c.page_of.ensures (leaf-in i.spec (row_table 3 i.table).shape c.self.invariant.kept.table_is (leaf_at c.args.space c.args.va c.args.order c.in-Some.frame c.args.perm) c.self.invariant.kept.spec_is new.valid)
+    let known = map-known s c.self.invariant.kept c.args.space c.args.va c.args.order c.args.perm ruled i.frames c.self.invariant.pool_is c.in-Some.frame c.in-Some.ensures.lowest in
+    record {
+      valid = rw c.page_of.ensures (leaf-in i.spec (row_table 3 i.table).shape c.self.invariant.kept.table_is (leaf_at c.args.space c.args.va c.args.order c.in-Some.frame c.args.perm) c.self.invariant.kept.spec_is new.valid);
+      free = rw c.page_of.ensures new.apart;
+      room = rw c.page_of.ensures (change-room s c.self.invariant.kept (event.Map c.args.space c.args.va c.args.order c.args.perm) (Insert (leaf_at c.args.space c.args.va c.args.order c.in-Some.frame c.args.perm)) ruled known);
+    }
 
-pub insert-requires-clause-free : goal.insert-requires-clause-free
-insert-requires-clause-free c =
-    let i = c.self.inside in
-    let s : HartsState = state_of i.spec (row_table 3 i.table) i.requests.items i.harts.items i.current i.accepted i.refused in
-    let ruled : refusal_of (event.Map c.args.space c.args.va c.args.order c.args.perm) s ≡ None = rw (← c.self.view_is) at c.requires in
-    let new = map-new s c.self.invariant.kept c.args.space c.args.va c.args.order c.args.perm ruled i.frames c.self.invariant.pool_is c.in-Some.frame c.in-Some.ensures.lowest in
-    rw c.page_of.ensures new.apart
-
-pub insert-requires-clause-room : goal.insert-requires-clause-room
-insert-requires-clause-room c =
+pub put-requires : goal.put-requires
+put-requires c =
     let i = c.self.inside in
     let s : HartsState = state_of i.spec (row_table 3 i.table) i.requests.items i.harts.items i.current i.accepted i.refused in
     let ruled : refusal_of (event.Map c.args.space c.args.va c.args.order c.args.perm) s ≡ None = rw (← c.self.view_is) at c.requires in
     let known = map-known s c.self.invariant.kept c.args.space c.args.va c.args.order c.args.perm ruled i.frames c.self.invariant.pool_is c.in-Some.frame c.in-Some.ensures.lowest in
-    rw c.page_of.ensures (change-room s c.self.invariant.kept (event.Map c.args.space c.args.va c.args.order c.args.perm) (Insert (leaf_at c.args.space c.args.va c.args.order c.in-Some.frame c.args.perm)) ruled known)
-
-pub put-requires-clause-room : goal.put-requires-clause-room
-put-requires-clause-room c =
-    let i = c.self.inside in
-    let s : HartsState = state_of i.spec (row_table 3 i.table) i.requests.items i.harts.items i.current i.accepted i.refused in
-    let ruled : refusal_of (event.Map c.args.space c.args.va c.args.order c.args.perm) s ≡ None = rw (← c.self.view_is) at c.requires in
-    let known = map-known s c.self.invariant.kept c.args.space c.args.va c.args.order c.args.perm ruled i.frames c.self.invariant.pool_is c.in-Some.frame c.in-Some.ensures.lowest in
-    rw c.self.invariant.room (queue-room s c.self.invariant.kept (event.Map c.args.space c.args.va c.args.order c.args.perm) (Insert (leaf_at c.args.space c.args.va c.args.order c.in-Some.frame c.args.perm)) ruled known)
-
-pub put-requires-clause-queues : goal.put-requires-clause-queues
-put-requires-clause-queues c =
-    let i = c.self.inside in
-    let s : HartsState = state_of i.spec (row_table 3 i.table) i.requests.items i.harts.items i.current i.accepted i.refused in
-    rw c.deref_mut.ensures.value (all-short s c.self.invariant.kept)
+    record {
+      room = rw c.self.invariant.room (queue-room s c.self.invariant.kept (event.Map c.args.space c.args.va c.args.order c.args.perm) (Insert (leaf_at c.args.space c.args.va c.args.order c.in-Some.frame c.args.perm)) ruled known);
+      queues = rw c.deref_mut.ensures.value (all-short s c.self.invariant.kept);
+    }
 
 pub invariant_of-self : goal.invariant_of-self
 invariant_of-self c =

@@ -6,56 +6,30 @@ use Rattle.xl_model.specs.declared.address.Mode.TheVariants as mode
 use Rattle.xl_model.specs.declared.event.Event.TheVariants as event
 use Rattle.xl_harts.proofs.harts.Harts.relocate.Goals as goal
 
-pub relocate-requires-clause-there : goal.relocate-requires-clause-there
-relocate-requires-clause-there c =
+pub relocate-requires : goal.relocate-requires
+relocate-requires c =
     let i = c.self.inside in
     let s : HartsState = state_of i.spec (row_table 3 i.table) i.requests.items i.harts.items i.current i.accepted i.refused in
     let ruled : refusal_of (event.Move c.args.space c.args.from c.args.to c.args.order) s ≡ None = rw (← c.self.view_is) at c.requires.ruled in
     let known = move-change s c.args.space c.args.from c.args.to c.args.order in
     let named = old-named s c.self.invariant.kept c.args.space c.args.from c.args.order c.args.old (there-move s c.args.space c.args.from c.args.to c.args.order (rule-none s (event.Move c.args.space c.args.from c.args.to c.args.order) ruled)) (rw (← c.self.view_is) at c.requires.found) in
-    rw c.page_of.ensures (ap is_some named)
+    record {
+      there = rw c.page_of.ensures (ap is_some named);
+      valid = rw c.page_of-place.ensures (block-for i.spec (row_table 3 i.table).shape i.table.radix.leaves c.args.space (page_of mode.Sv39 c.args.to) c.args.order c.self.invariant.kept.table_is (change-allowed s c.self.invariant.kept (event.Move c.args.space c.args.from c.args.to c.args.order) (Relocate c.args.space (page_of mode.Sv39 c.args.from) (page_of mode.Sv39 c.args.to) c.args.order) ruled known).sound);
+      free = rw c.page_of-place.ensures (change-allowed s c.self.invariant.kept (event.Move c.args.space c.args.from c.args.to c.args.order) (Relocate c.args.space (page_of mode.Sv39 c.args.from) (page_of mode.Sv39 c.args.to) c.args.order) ruled known).sound.apart;
+      room = rw (c.page_of.ensures, c.page_of-place.ensures) (change-room s c.self.invariant.kept (event.Move c.args.space c.args.from c.args.to c.args.order) (Relocate c.args.space (page_of mode.Sv39 c.args.from) (page_of mode.Sv39 c.args.to) c.args.order) ruled known);
+    }
 
-pub relocate-requires-clause-valid : goal.relocate-requires-clause-valid
-relocate-requires-clause-valid c =
+pub put-requires : goal.put-requires
+put-requires c =
     let i = c.self.inside in
     let s : HartsState = state_of i.spec (row_table 3 i.table) i.requests.items i.harts.items i.current i.accepted i.refused in
     let ruled : refusal_of (event.Move c.args.space c.args.from c.args.to c.args.order) s ≡ None = rw (← c.self.view_is) at c.requires.ruled in
     let known = move-change s c.args.space c.args.from c.args.to c.args.order in
-    let named = old-named s c.self.invariant.kept c.args.space c.args.from c.args.order c.args.old (there-move s c.args.space c.args.from c.args.to c.args.order (rule-none s (event.Move c.args.space c.args.from c.args.to c.args.order) ruled)) (rw (← c.self.view_is) at c.requires.found) in
-    rw c.page_of-place.ensures (block-for i.spec (row_table 3 i.table).shape i.table.radix.leaves c.args.space (page_of mode.Sv39 c.args.to) c.args.order c.self.invariant.kept.table_is (change-allowed s c.self.invariant.kept (event.Move c.args.space c.args.from c.args.to c.args.order) (Relocate c.args.space (page_of mode.Sv39 c.args.from) (page_of mode.Sv39 c.args.to) c.args.order) ruled known).sound)
-
-pub relocate-requires-clause-free : goal.relocate-requires-clause-free
-relocate-requires-clause-free c =
-    let i = c.self.inside in
-    let s : HartsState = state_of i.spec (row_table 3 i.table) i.requests.items i.harts.items i.current i.accepted i.refused in
-    let ruled : refusal_of (event.Move c.args.space c.args.from c.args.to c.args.order) s ≡ None = rw (← c.self.view_is) at c.requires.ruled in
-    let known = move-change s c.args.space c.args.from c.args.to c.args.order in
-    let named = old-named s c.self.invariant.kept c.args.space c.args.from c.args.order c.args.old (there-move s c.args.space c.args.from c.args.to c.args.order (rule-none s (event.Move c.args.space c.args.from c.args.to c.args.order) ruled)) (rw (← c.self.view_is) at c.requires.found) in
-    rw c.page_of-place.ensures (change-allowed s c.self.invariant.kept (event.Move c.args.space c.args.from c.args.to c.args.order) (Relocate c.args.space (page_of mode.Sv39 c.args.from) (page_of mode.Sv39 c.args.to) c.args.order) ruled known).sound.apart
-
-pub relocate-requires-clause-room : goal.relocate-requires-clause-room
-relocate-requires-clause-room c =
-    let i = c.self.inside in
-    let s : HartsState = state_of i.spec (row_table 3 i.table) i.requests.items i.harts.items i.current i.accepted i.refused in
-    let ruled : refusal_of (event.Move c.args.space c.args.from c.args.to c.args.order) s ≡ None = rw (← c.self.view_is) at c.requires.ruled in
-    let known = move-change s c.args.space c.args.from c.args.to c.args.order in
-    let named = old-named s c.self.invariant.kept c.args.space c.args.from c.args.order c.args.old (there-move s c.args.space c.args.from c.args.to c.args.order (rule-none s (event.Move c.args.space c.args.from c.args.to c.args.order) ruled)) (rw (← c.self.view_is) at c.requires.found) in
-    rw (c.page_of.ensures, c.page_of-place.ensures) (change-room s c.self.invariant.kept (event.Move c.args.space c.args.from c.args.to c.args.order) (Relocate c.args.space (page_of mode.Sv39 c.args.from) (page_of mode.Sv39 c.args.to) c.args.order) ruled known)
-
-pub put-requires-clause-room : goal.put-requires-clause-room
-put-requires-clause-room c =
-    let i = c.self.inside in
-    let s : HartsState = state_of i.spec (row_table 3 i.table) i.requests.items i.harts.items i.current i.accepted i.refused in
-    let ruled : refusal_of (event.Move c.args.space c.args.from c.args.to c.args.order) s ≡ None = rw (← c.self.view_is) at c.requires.ruled in
-    let known = move-change s c.args.space c.args.from c.args.to c.args.order in
-    let named = old-named s c.self.invariant.kept c.args.space c.args.from c.args.order c.args.old (there-move s c.args.space c.args.from c.args.to c.args.order (rule-none s (event.Move c.args.space c.args.from c.args.to c.args.order) ruled)) (rw (← c.self.view_is) at c.requires.found) in
-    rw c.self.invariant.room (queue-room s c.self.invariant.kept (event.Move c.args.space c.args.from c.args.to c.args.order) (Relocate c.args.space (page_of mode.Sv39 c.args.from) (page_of mode.Sv39 c.args.to) c.args.order) ruled known)
-
-pub put-requires-clause-queues : goal.put-requires-clause-queues
-put-requires-clause-queues c =
-    let i = c.self.inside in
-    let s : HartsState = state_of i.spec (row_table 3 i.table) i.requests.items i.harts.items i.current i.accepted i.refused in
-    rw c.deref_mut.ensures.value (all-short s c.self.invariant.kept)
+    record {
+      room = rw c.self.invariant.room (queue-room s c.self.invariant.kept (event.Move c.args.space c.args.from c.args.to c.args.order) (Relocate c.args.space (page_of mode.Sv39 c.args.from) (page_of mode.Sv39 c.args.to) c.args.order) ruled known);
+      queues = rw c.deref_mut.ensures.value (all-short s c.self.invariant.kept);
+    }
 
 pub invariant_of-self : goal.invariant_of-self
 invariant_of-self c =

@@ -11,24 +11,19 @@ remove-requires c =
     let i = c.self.inside in
     let s : HartsState = state_of i.spec (row_table 3 i.table) i.requests.items i.harts.items i.current i.accepted i.refused in
     let ruled : refusal_of (event.Unmap c.args.space c.args.va c.args.order) s ≡ None = rw (← c.self.view_is) at c.requires.ruled in
-    let known = unmap-change s c.args.space c.args.va c.args.order in
     let named = old-named s c.self.invariant.kept c.args.space c.args.va c.args.order c.args.old (there-unmap s c.args.space c.args.va c.args.order (rule-none s (event.Unmap c.args.space c.args.va c.args.order) ruled)) (rw (← c.self.view_is) at c.requires.found) in
     rw c.page_of.ensures (ap is_some named)
 
-pub put-requires-clause-room : goal.put-requires-clause-room
-put-requires-clause-room c =
+pub put-requires : goal.put-requires
+put-requires c =
     let i = c.self.inside in
     let s : HartsState = state_of i.spec (row_table 3 i.table) i.requests.items i.harts.items i.current i.accepted i.refused in
     let ruled : refusal_of (event.Unmap c.args.space c.args.va c.args.order) s ≡ None = rw (← c.self.view_is) at c.requires.ruled in
     let known = unmap-change s c.args.space c.args.va c.args.order in
-    let named = old-named s c.self.invariant.kept c.args.space c.args.va c.args.order c.args.old (there-unmap s c.args.space c.args.va c.args.order (rule-none s (event.Unmap c.args.space c.args.va c.args.order) ruled)) (rw (← c.self.view_is) at c.requires.found) in
-    rw c.self.invariant.room (queue-room s c.self.invariant.kept (event.Unmap c.args.space c.args.va c.args.order) (Remove c.args.space (page_of mode.Sv39 c.args.va) c.args.order) ruled known)
-
-pub put-requires-clause-queues : goal.put-requires-clause-queues
-put-requires-clause-queues c =
-    let i = c.self.inside in
-    let s : HartsState = state_of i.spec (row_table 3 i.table) i.requests.items i.harts.items i.current i.accepted i.refused in
-    rw c.deref_mut.ensures.value (all-short s c.self.invariant.kept)
+    record {
+      room = rw c.self.invariant.room (queue-room s c.self.invariant.kept (event.Unmap c.args.space c.args.va c.args.order) (Remove c.args.space (page_of mode.Sv39 c.args.va) c.args.order) ruled known);
+      queues = rw c.deref_mut.ensures.value (all-short s c.self.invariant.kept);
+    }
 
 pub invariant_of-self : goal.invariant_of-self
 invariant_of-self c =

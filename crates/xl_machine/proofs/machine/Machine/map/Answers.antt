@@ -53,34 +53,23 @@ invariant_of-self-in-Err g c =
       span_is = c.self.invariant.span_is;
     }
 
-pub returns-in-Ok-clause-answer : goal.returns-in-Ok-clause-answer
-returns-in-Ok-clause-answer g c =
+pub returns-in-Ok : goal.returns-in-Ok
+returns-in-Ok g c =
     let ruled : rule (row_of c.self.inside.row) (g.S.Structure.table c.self.inside.table).leaves (event.Map c.args.space c.args.va c.args.order c.args.perm) ≡ None = rw (← c.self.view_is) at c.requires in
     let leaf : Leaf = record { space = c.args.space; first = (page_of c.self.inside.row.mode c.args.va); order = c.args.order; frame = c.in-Some.frame; perm = c.args.perm } in
     let low : lowest c.self.inside.row.frames c.args.order (g.S.Structure.table c.self.inside.table).leaves ≡ Some c.in-Some.frame = lowest-some c.self.inside.row.frames c.args.order (g.S.Structure.table c.self.inside.table).leaves c.self.inside.frames c.in-Some.frame c.self.invariant.served.pool_is c.in-Some.ensures.lowest in
     let new : IsNewLeaf (row_of c.self.inside.row) (g.S.Structure.table c.self.inside.table).leaves leaf = leaf-map (row_of c.self.inside.row) (g.S.Structure.table c.self.inside.table).leaves c.args.space c.args.va c.args.order c.args.perm c.in-Some.frame ruled low in
-    rw (← c.self.view_is) (done-answer (row_of c.self.inside.row) (event.Map c.args.space c.args.va c.args.order c.args.perm) (Insert leaf) (g.S.Structure.table c.self.inside.table) ruled (map-is (row_of c.self.inside.row) (g.S.Structure.table c.self.inside.table).leaves c.args.space c.args.va c.args.order c.args.perm c.in-Some.frame low) c.self.inside.space c.self.inside.tlb c.self.inside.counts c.in-Ok.work (rw c.page_of-first.ensures at c.in-Ok.ensures.changes.answer))
+    record {
+      answer = rw (← c.self.view_is) (done-answer (row_of c.self.inside.row) (event.Map c.args.space c.args.va c.args.order c.args.perm) (Insert leaf) (g.S.Structure.table c.self.inside.table) ruled (map-is (row_of c.self.inside.row) (g.S.Structure.table c.self.inside.table).leaves c.args.space c.args.va c.args.order c.args.perm c.in-Some.frame low) c.self.inside.space c.self.inside.tlb c.self.inside.counts c.in-Ok.work (rw c.page_of-first.ensures at c.in-Ok.ensures.changes.answer));
+      after = rw (c.done.ensures, ← c.self.view_is) (done-state (row_of c.self.inside.row) (event.Map c.args.space c.args.va c.args.order c.args.perm) (Insert leaf) (g.S.Structure.table c.self.inside.table) ruled (map-is (row_of c.self.inside.row) (g.S.Structure.table c.self.inside.table).leaves c.args.space c.args.va c.args.order c.args.perm c.in-Some.frame low) c.self.inside.space c.self.inside.tlb c.self.inside.counts c.in-Ok.work 0 (g.S.Structure.table c.insert.new.self) c.self.inside.tlb (rw c.page_of-first.ensures at c.in-Ok.ensures.changes.answer) (rw c.page_of-first.ensures at c.in-Ok.ensures.changes.after) refl (omega arith));
+    }
 
-pub returns-in-Ok-clause-after : goal.returns-in-Ok-clause-after
-returns-in-Ok-clause-after g c =
+pub returns-in-Err : goal.returns-in-Err
+returns-in-Err g c =
     let ruled : rule (row_of c.self.inside.row) (g.S.Structure.table c.self.inside.table).leaves (event.Map c.args.space c.args.va c.args.order c.args.perm) ≡ None = rw (← c.self.view_is) at c.requires in
     let leaf : Leaf = record { space = c.args.space; first = (page_of c.self.inside.row.mode c.args.va); order = c.args.order; frame = c.in-Some.frame; perm = c.args.perm } in
     let low : lowest c.self.inside.row.frames c.args.order (g.S.Structure.table c.self.inside.table).leaves ≡ Some c.in-Some.frame = lowest-some c.self.inside.row.frames c.args.order (g.S.Structure.table c.self.inside.table).leaves c.self.inside.frames c.in-Some.frame c.self.invariant.served.pool_is c.in-Some.ensures.lowest in
-    let new : IsNewLeaf (row_of c.self.inside.row) (g.S.Structure.table c.self.inside.table).leaves leaf = leaf-map (row_of c.self.inside.row) (g.S.Structure.table c.self.inside.table).leaves c.args.space c.args.va c.args.order c.args.perm c.in-Some.frame ruled low in
-    rw (c.done.ensures, ← c.self.view_is) (done-state (row_of c.self.inside.row) (event.Map c.args.space c.args.va c.args.order c.args.perm) (Insert leaf) (g.S.Structure.table c.self.inside.table) ruled (map-is (row_of c.self.inside.row) (g.S.Structure.table c.self.inside.table).leaves c.args.space c.args.va c.args.order c.args.perm c.in-Some.frame low) c.self.inside.space c.self.inside.tlb c.self.inside.counts c.in-Ok.work 0 (g.S.Structure.table c.insert.new.self) c.self.inside.tlb (rw c.page_of-first.ensures at c.in-Ok.ensures.changes.answer) (rw c.page_of-first.ensures at c.in-Ok.ensures.changes.after) refl (omega arith))
-
-pub returns-in-Err-clause-answer : goal.returns-in-Err-clause-answer
-returns-in-Err-clause-answer g c =
-    let ruled : rule (row_of c.self.inside.row) (g.S.Structure.table c.self.inside.table).leaves (event.Map c.args.space c.args.va c.args.order c.args.perm) ≡ None = rw (← c.self.view_is) at c.requires in
-    let leaf : Leaf = record { space = c.args.space; first = (page_of c.self.inside.row.mode c.args.va); order = c.args.order; frame = c.in-Some.frame; perm = c.args.perm } in
-    let low : lowest c.self.inside.row.frames c.args.order (g.S.Structure.table c.self.inside.table).leaves ≡ Some c.in-Some.frame = lowest-some c.self.inside.row.frames c.args.order (g.S.Structure.table c.self.inside.table).leaves c.self.inside.frames c.in-Some.frame c.self.invariant.served.pool_is c.in-Some.ensures.lowest in
-    let new : IsNewLeaf (row_of c.self.inside.row) (g.S.Structure.table c.self.inside.table).leaves leaf = leaf-map (row_of c.self.inside.row) (g.S.Structure.table c.self.inside.table).leaves c.args.space c.args.va c.args.order c.args.perm c.in-Some.frame ruled low in
-    rw (← c.self.view_is) (ap (λ (r : Refusal). outcome.Refused r) c.refuse.ensures.why ∙ refused-answer (row_of c.self.inside.row) (event.Map c.args.space c.args.va c.args.order c.args.perm) (Insert leaf) (g.S.Structure.table c.self.inside.table) ruled (map-is (row_of c.self.inside.row) (g.S.Structure.table c.self.inside.table).leaves c.args.space c.args.va c.args.order c.args.perm c.in-Some.frame low) c.self.inside.space c.self.inside.tlb c.self.inside.counts c.in-Err.refused (rw c.page_of-first.ensures at c.in-Err.ensures.changes.answer))
-
-pub returns-in-Err-clause-after : goal.returns-in-Err-clause-after
-returns-in-Err-clause-after g c =
-    let ruled : rule (row_of c.self.inside.row) (g.S.Structure.table c.self.inside.table).leaves (event.Map c.args.space c.args.va c.args.order c.args.perm) ≡ None = rw (← c.self.view_is) at c.requires in
-    let leaf : Leaf = record { space = c.args.space; first = (page_of c.self.inside.row.mode c.args.va); order = c.args.order; frame = c.in-Some.frame; perm = c.args.perm } in
-    let low : lowest c.self.inside.row.frames c.args.order (g.S.Structure.table c.self.inside.table).leaves ≡ Some c.in-Some.frame = lowest-some c.self.inside.row.frames c.args.order (g.S.Structure.table c.self.inside.table).leaves c.self.inside.frames c.in-Some.frame c.self.invariant.served.pool_is c.in-Some.ensures.lowest in
-    let new : IsNewLeaf (row_of c.self.inside.row) (g.S.Structure.table c.self.inside.table).leaves leaf = leaf-map (row_of c.self.inside.row) (g.S.Structure.table c.self.inside.table).leaves c.args.space c.args.va c.args.order c.args.perm c.in-Some.frame ruled low in
-    rw (c.refuse.ensures.counts, ← c.self.view_is) (refused-state (row_of c.self.inside.row) (event.Map c.args.space c.args.va c.args.order c.args.perm) (Insert leaf) (g.S.Structure.table c.self.inside.table) ruled (map-is (row_of c.self.inside.row) (g.S.Structure.table c.self.inside.table).leaves c.args.space c.args.va c.args.order c.args.perm c.in-Some.frame low) c.self.inside.space c.self.inside.tlb c.self.inside.counts c.in-Err.refused (g.S.Structure.table c.insert.new.self) (rw c.page_of-first.ensures at c.in-Err.ensures.changes.answer) (rw c.page_of-first.ensures at c.in-Err.ensures.changes.after))
+    record {
+      answer = rw (← c.self.view_is) (ap (λ (r : Refusal). outcome.Refused r) c.refuse.ensures.why ∙ refused-answer (row_of c.self.inside.row) (event.Map c.args.space c.args.va c.args.order c.args.perm) (Insert leaf) (g.S.Structure.table c.self.inside.table) ruled (map-is (row_of c.self.inside.row) (g.S.Structure.table c.self.inside.table).leaves c.args.space c.args.va c.args.order c.args.perm c.in-Some.frame low) c.self.inside.space c.self.inside.tlb c.self.inside.counts c.in-Err.refused (rw c.page_of-first.ensures at c.in-Err.ensures.changes.answer));
+      after = rw (c.refuse.ensures.counts, ← c.self.view_is) (refused-state (row_of c.self.inside.row) (event.Map c.args.space c.args.va c.args.order c.args.perm) (Insert leaf) (g.S.Structure.table c.self.inside.table) ruled (map-is (row_of c.self.inside.row) (g.S.Structure.table c.self.inside.table).leaves c.args.space c.args.va c.args.order c.args.perm c.in-Some.frame low) c.self.inside.space c.self.inside.tlb c.self.inside.counts c.in-Err.refused (g.S.Structure.table c.insert.new.self) (rw c.page_of-first.ensures at c.in-Err.ensures.changes.answer) (rw c.page_of-first.ensures at c.in-Err.ensures.changes.after));
+    }

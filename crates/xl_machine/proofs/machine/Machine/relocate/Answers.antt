@@ -45,26 +45,20 @@ invariant_of-self-in-Err g c =
       span_is = c.self.invariant.span_is;
     }
 
-pub returns-in-Ok-clause-answer : goal.returns-in-Ok-clause-answer
-returns-in-Ok-clause-answer g c =
+pub returns-in-Ok : goal.returns-in-Ok
+returns-in-Ok g c =
     let known = move-known c.self.invariant.served c.args.space c.args.from c.args.to c.args.order c.args.old (rw (← c.self.view_is) at c.requires.ruled) (rw (← c.self.view_is) at c.requires.found) in
     let changes = rw (c.page_of-first.ensures, c.page_of-place.ensures) at c.in-Ok.ensures.changes in
-    rw (← c.self.view_is) (made-answer known c.self.inside.space c.self.inside.tlb c.self.inside.counts changes)
+    record {
+      answer = rw (← c.self.view_is) (made-answer known c.self.inside.space c.self.inside.tlb c.self.inside.counts changes);
+      after = rw (c.done.ensures, ← c.self.view_is) (made-state known c.self.inside.space c.self.inside.tlb c.self.inside.counts c.purge-left.result changes c.purge-left.ensures.after c.purge-left.ensures.left);
+    }
 
-pub returns-in-Ok-clause-after : goal.returns-in-Ok-clause-after
-returns-in-Ok-clause-after g c =
-    let known = move-known c.self.invariant.served c.args.space c.args.from c.args.to c.args.order c.args.old (rw (← c.self.view_is) at c.requires.ruled) (rw (← c.self.view_is) at c.requires.found) in
-    let changes = rw (c.page_of-first.ensures, c.page_of-place.ensures) at c.in-Ok.ensures.changes in
-    rw (c.done.ensures, ← c.self.view_is) (made-state known c.self.inside.space c.self.inside.tlb c.self.inside.counts c.purge-left.result changes c.purge-left.ensures.after c.purge-left.ensures.left)
-
-pub returns-in-Err-clause-answer : goal.returns-in-Err-clause-answer
-returns-in-Err-clause-answer g c =
+pub returns-in-Err : goal.returns-in-Err
+returns-in-Err g c =
     let known = move-known c.self.invariant.served c.args.space c.args.from c.args.to c.args.order c.args.old (rw (← c.self.view_is) at c.requires.ruled) (rw (← c.self.view_is) at c.requires.found) in
     let changes = rw (c.page_of-first.ensures, c.page_of-place.ensures) at c.in-Err.ensures.changes in
-    rw (← c.self.view_is) (unmade-answer known c.self.inside.space c.self.inside.tlb c.self.inside.counts changes c.refuse.ensures.why)
-
-pub returns-in-Err-clause-after : goal.returns-in-Err-clause-after
-returns-in-Err-clause-after g c =
-    let known = move-known c.self.invariant.served c.args.space c.args.from c.args.to c.args.order c.args.old (rw (← c.self.view_is) at c.requires.ruled) (rw (← c.self.view_is) at c.requires.found) in
-    let changes = rw (c.page_of-first.ensures, c.page_of-place.ensures) at c.in-Err.ensures.changes in
-    rw (c.refuse.ensures.counts, ← c.self.view_is) (unmade-state known c.self.inside.space c.self.inside.tlb c.self.inside.counts changes)
+    record {
+      answer = rw (← c.self.view_is) (unmade-answer known c.self.inside.space c.self.inside.tlb c.self.inside.counts changes c.refuse.ensures.why);
+      after = rw (c.refuse.ensures.counts, ← c.self.view_is) (unmade-state known c.self.inside.space c.self.inside.tlb c.self.inside.counts changes);
+    }

@@ -1,4 +1,4 @@
-use Rattle.xl_outside.proofs.Common.{◌+◌, ◌≡◌, Proceeds, length, true, with_more, ℕ}
+use Rattle.xl_outside.proofs.Common.{◌+◌, ◌≡◌, length, Proceeds, true, with_more, ℕ}
 use Rattle.xl_outside.proofs.buffered.Buffered.pass_on.Given as goal
 
 abbrev pub invariant-loop-self : goal.invariant-loop-self

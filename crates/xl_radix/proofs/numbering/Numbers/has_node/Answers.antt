@@ -1,5 +1,5 @@
 use Rattle.xl_radix.proofs.Common.{◌+◌, ◌∙◌, ap, is_below, list_any}
-use Rattle.xl_radix.proofs.NumberLemmas.{any_number}
+use Rattle.xl_radix.proofs.SlotLemmas.{any_number}
 use Rattle.xl_radix.proofs.numbering.Numbers.has_node.Goals as goal
 
 pub returns : goal.returns

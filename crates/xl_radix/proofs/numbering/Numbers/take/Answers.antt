@@ -1,6 +1,6 @@
 use Rattle.xl_radix.proofs.Common.{◌∙◌, false, refl, Some}
 use Rattle.xl_radix.proofs.FreeLemmas.{lowest-position, none-position, put-free}
-use Rattle.xl_radix.proofs.NumberLemmas.{put-lowest}
+use Rattle.xl_radix.proofs.SlotLemmas.{put-lowest}
 use Rattle.xl_radix.proofs.numbering.Numbers.take.Goals as goal
 
 pub invariant_of-self : goal.invariant_of-self

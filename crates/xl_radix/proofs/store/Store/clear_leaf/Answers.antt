@@ -1,4 +1,4 @@
-use Rattle.xl_radix.proofs.Common.{◌%◌, ◌∙◌, ◌≡◌, ap, level_of, refl, up, ℕ}
+use Rattle.xl_radix.proofs.Common.{◌%◌, ◌∙◌, ◌≡◌, ap, level_of, refl, rules, up, ℕ}
 use Rattle.xl_radix.proofs.RemovalLemmas.{clear-step}
 use Rattle.xl_radix.proofs.store.Store.clear_leaf.Goals as goal
 
@@ -18,20 +18,16 @@ invariant_of-self g c =
     let step = clear-step g.row.LEVELS _ c.args.space c.args.first c.args.node c.index_of.result c.index_mut.result.now c.args.order _ _ _ _ c.self.invariant exact name at index c.index_mut.ensures.value in
     rw c.set.ensures (rw step.back step.store)
 
-pub returns-clause-leaves : goal.returns-clause-leaves
-returns-clause-leaves g c =
+pub returns : goal.returns
+returns g c =
     let exact = rw (← c.self.view_is) at c.requires.exact in
     let name = rw (← c.self.view_is) at c.requires.named in
     let at = rw (← c.self.view_is) at c.requires.at in
     let index : c.index_of.result ≡ up (level_of c.args.order) c.args.first % 512 = c.index_of.ensures.value ∙ ap (λ (v : ℕ). up v c.args.first % 512) c.level.ensures in
     let step = clear-step g.row.LEVELS _ c.args.space c.args.first c.args.node c.index_of.result c.index_mut.result.now c.args.order _ _ _ _ c.self.invariant exact name at index c.index_mut.ensures.value in
-    rw (c.set.ensures, ← c.self.view_is) step.back
-
-pub returns-clause-nearly : goal.returns-clause-nearly
-returns-clause-nearly g c =
-    let exact = rw (← c.self.view_is) at c.requires.exact in
-    let name = rw (← c.self.view_is) at c.requires.named in
-    let at = rw (← c.self.view_is) at c.requires.at in
-    let index : c.index_of.result ≡ up (level_of c.args.order) c.args.first % 512 = c.index_of.ensures.value ∙ ap (λ (v : ℕ). up v c.args.first % 512) c.level.ensures in
-    let step = clear-step g.row.LEVELS _ c.args.space c.args.first c.args.node c.index_of.result c.index_mut.result.now c.args.order _ _ _ _ c.self.invariant exact name at index c.index_mut.ensures.value in
-    rw c.set.ensures (rw step.back step.nearly)
+    record {
+      leaves = rw (c.set.ensures, ← c.self.view_is) step.back;
+      nodes = search rules;
+      spaces = search rules;
+      nearly = rw c.set.ensures (rw step.back step.nearly);
+    }

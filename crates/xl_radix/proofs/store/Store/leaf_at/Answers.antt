@@ -11,5 +11,5 @@ returns g c =
 
 pub leaf_of-requires : goal.leaf_of-requires
 leaf_of-requires g c =
-    let low = up-low c.end_of-node.result.level g.row.LEVELS c.args.page c.self.invariant.high c.self.invariant.low c.requires.page in
+    let low = up-low c.end_of-node.result.level g.row.LEVELS c.args.page c.self.invariant.low c.requires.page in
     omega (arith, low, c.block_of.ensures)

@@ -1,4 +1,4 @@
-use Rattle.xl_radix.proofs.Common.{arith}
+use Rattle.xl_radix.proofs.Common.{arith, rules}
 use Rattle.xl_radix.proofs.OpeningLemmas.{opening-back, opening-count, opening-exact, opening-store}
 use Rattle.xl_radix.proofs.store.Store.open.Goals as goal
 
@@ -11,22 +11,17 @@ invariant_of-result g c =
     let back = opening-back g.row.LEVELS c.args.spaces c.args.frames c.requires.levels.0 c.requires.levels.1 c.requires.spaces c.requires.frames in
     rw (nodes, words, used, back) store
 
-pub returns-clause-leaves : goal.returns-clause-leaves
-returns-clause-leaves g c =
-    let nodes = c.in_ok-numbers.ensures in
-    let words = c.in_ok-words.ensures in
-    rw (nodes, words) (opening-back g.row.LEVELS c.args.spaces c.args.frames c.requires.levels.0 c.requires.levels.1 c.requires.spaces c.requires.frames)
-
-pub returns-clause-exact : goal.returns-clause-exact
-returns-clause-exact g c =
+pub returns : goal.returns
+returns g c =
     let nodes = c.in_ok-numbers.ensures in
     let words = c.in_ok-words.ensures in
     let back = opening-back g.row.LEVELS c.args.spaces c.args.frames c.requires.levels.0 c.requires.levels.1 c.requires.spaces c.requires.frames in
-    rw (nodes, words, back) (opening-exact g.row.LEVELS c.args.spaces c.args.frames c.requires.levels.0)
-
-pub returns-clause-free : goal.returns-clause-free
-returns-clause-free g c =
-    let nodes = c.in_ok-numbers.ensures in
     let count = opening-count g.row.LEVELS c.args.spaces c.args.frames in
     let h = c.requires.spaces in
-    rw nodes (omega (arith, count, h))
+    record {
+      leaves = rw (nodes, words) (opening-back g.row.LEVELS c.args.spaces c.args.frames c.requires.levels.0 c.requires.levels.1 c.requires.spaces c.requires.frames);
+      nodes = search rules;
+      spaces = search rules;
+      exact = rw (nodes, words, back) (opening-exact g.row.LEVELS c.args.spaces c.args.frames c.requires.levels.0);
+      free = rw nodes (omega (arith, count, h));
+    }

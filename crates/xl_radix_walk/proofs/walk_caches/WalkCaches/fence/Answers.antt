@@ -9,19 +9,14 @@ fence_caches-requires c =
     let h = c.requires in
     omega arith
 
-pub returns-clause-caches : goal.returns-clause-caches
-returns-clause-caches c =
-    let n = c.self.inside.lowest in
-    let ds = c.deref_mut.result.now in
-    let v : above_off n ds ≡ c.args.self.now = rw c.deref_mut.ensures.value c.self.view_is in
-    let w : (with_items c.self.inside.kept c.fence_caches.new.caches).items ≡ c.fence_caches.new.caches = with_items_is c.self.inside.kept c.fence_caches.new.caches (c.fence_caches.auto.caches ∙ ap length c.deref_mut.ensures.value ∙ sym c.self.inside.kept.ok.0) in
-    rw (← v, w) (ap (above_off n) c.fence_caches.ensures.caches ∙ sym (fenced-above n c.args.reach ds))
-
-pub returns-clause-count : goal.returns-clause-count
-returns-clause-count c =
+pub returns : goal.returns
+returns c =
     let n = c.self.inside.lowest in
     let ds = c.deref_mut.result.now in
     let v : above_off n ds ≡ c.args.self.now = rw c.deref_mut.ensures.value c.self.view_is in
     let w : (with_items c.self.inside.kept c.fence_caches.new.caches).items ≡ c.fence_caches.new.caches = with_items_is c.self.inside.kept c.fence_caches.new.caches (c.fence_caches.auto.caches ∙ ap length c.deref_mut.ensures.value ∙ sym c.self.inside.kept.ok.0) in
     let a : entries_of (above_off n c.fence_caches.new.caches) ≡ entries_of c.fence_caches.new.caches = entries-above n c.fence_caches.new.caches in
-    rw (← v, w, a, entries-above n ds) c.fence_caches.ensures.count
+    record {
+      caches = rw (← v, w) (ap (above_off n) c.fence_caches.ensures.caches ∙ sym (fenced-above n c.args.reach ds));
+      count = rw (← v, w, a, entries-above n ds) c.fence_caches.ensures.count;
+    }

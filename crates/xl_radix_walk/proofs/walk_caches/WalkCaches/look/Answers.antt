@@ -21,54 +21,18 @@ look-requires-clause-levels c =
     let h = c.requires.levels in
     omega arith
 
-pub returns-clause-some : goal.returns-clause-some
-returns-clause-some c =
-    let n = c.self.inside.lowest in
-    let ds = c.deref_mut.result.now in
-    let v : above_off n ds ≡ c.args.self.now = rw c.deref_mut.ensures.value c.self.view_is in
-    rw (← v, start-above n n 0 c.args.space c.args.page ds (omega arith)) c.look.ensures.some
-
-pub returns-clause-low : goal.returns-clause-low
-returns-clause-low c =
-    let n = c.self.inside.lowest in
-    let ds = c.deref_mut.result.now in
-    let v : above_off n ds ≡ c.args.self.now = rw c.deref_mut.ensures.value c.self.view_is in
-    rw (← v, length-above n ds) c.look.ensures.low
-
-pub returns-clause-none : goal.returns-clause-none
-returns-clause-none c =
-    let n = c.self.inside.lowest in
-    let ds = c.deref_mut.result.now in
-    let v : above_off n ds ≡ c.args.self.now = rw c.deref_mut.ensures.value c.self.view_is in
-    rw (← v, start-above n n 0 c.args.space c.args.page ds (omega arith), length-above n ds) c.look.ensures.none
-
-pub returns-clause-caches : goal.returns-clause-caches
-returns-clause-caches c =
+pub returns : goal.returns
+returns c =
     let n = c.self.inside.lowest in
     let ds = c.deref_mut.result.now in
     let v : above_off n ds ≡ c.args.self.now = rw c.deref_mut.ensures.value c.self.view_is in
     let w : (with_items c.self.inside.kept c.look.new.caches).items ≡ c.look.new.caches = with_items_is c.self.inside.kept c.look.new.caches (c.look.auto.caches ∙ ap length c.deref_mut.ensures.value ∙ sym c.self.inside.kept.ok.0) in
-    rw (← v, w, start-above n n 0 c.args.space c.args.page ds (omega arith)) (after-above n n 0 _ c.args.space c.args.page ds c.look.new.caches (omega arith) c.look.ensures.caches)
-
-pub returns-clause-length : goal.returns-clause-length
-returns-clause-length c =
-    let n = c.self.inside.lowest in
-    let ds = c.deref_mut.result.now in
-    let v : above_off n ds ≡ c.args.self.now = rw c.deref_mut.ensures.value c.self.view_is in
-    let w : (with_items c.self.inside.kept c.look.new.caches).items ≡ c.look.new.caches = with_items_is c.self.inside.kept c.look.new.caches (c.look.auto.caches ∙ ap length c.deref_mut.ensures.value ∙ sym c.self.inside.kept.ok.0) in
-    rw (← v, w) (length-above n c.look.new.caches ∙ ap (λ (k : ℕ). n + k) c.look.ensures.length ∙ sym (length-above n ds))
-
-pub returns-clause-number : goal.returns-clause-number
-returns-clause-number c =
-    let n = c.self.inside.lowest in
-    let ds = c.deref_mut.result.now in
-    let v : above_off n ds ≡ c.args.self.now = rw c.deref_mut.ensures.value c.self.view_is in
-    λ nodes all. c.look.ensures.number nodes (numbered-inside n n 0 nodes ds (omega arith) (rw v all))
-
-pub returns-clause-kept : goal.returns-clause-kept
-returns-clause-kept c =
-    let n = c.self.inside.lowest in
-    let ds = c.deref_mut.result.now in
-    let v : above_off n ds ≡ c.args.self.now = rw c.deref_mut.ensures.value c.self.view_is in
-    let w : (with_items c.self.inside.kept c.look.new.caches).items ≡ c.look.new.caches = with_items_is c.self.inside.kept c.look.new.caches (c.look.auto.caches ∙ ap length c.deref_mut.ensures.value ∙ sym c.self.inside.kept.ok.0) in
-    rw w (λ nodes all. numbered-above n n 0 nodes c.look.new.caches (omega arith) (c.look.ensures.kept nodes (numbered-inside n n 0 nodes ds (omega arith) (rw v all))))
+    record {
+      some = rw (← v, start-above n n 0 c.args.space c.args.page ds (omega arith)) c.look.ensures.some;
+      low = rw (← v, length-above n ds) c.look.ensures.low;
+      none = rw (← v, start-above n n 0 c.args.space c.args.page ds (omega arith), length-above n ds) c.look.ensures.none;
+      caches = rw (← v, w, start-above n n 0 c.args.space c.args.page ds (omega arith)) (after-above n n 0 _ c.args.space c.args.page ds c.look.new.caches (omega arith) c.look.ensures.caches);
+      length = rw (← v, w) (length-above n c.look.new.caches ∙ ap (λ (k : ℕ). n + k) c.look.ensures.length ∙ sym (length-above n ds));
+      number = λ nodes all. c.look.ensures.number nodes (numbered-inside n n 0 nodes ds (omega arith) (rw v all));
+      kept = rw w (λ nodes all. numbered-above n n 0 nodes c.look.new.caches (omega arith) (c.look.ensures.kept nodes (numbered-inside n n 0 nodes ds (omega arith) (rw v all))));
+    }

@@ -14,19 +14,14 @@ purge-requires g c =
     let few : length c.deref_mut.result.now ≤ 4 = omega arith in
     (lit< tt, few)
 
-pub returns-clause-caches : goal.returns-clause-caches
-returns-clause-caches g c =
-    let n = c.self.inside.lowest in
-    let ds = c.deref_mut.result.now in
-    let v : above_off n ds ≡ c.args.self.now = rw c.deref_mut.ensures.value c.self.view_is in
-    let w : (with_items c.self.inside.kept c.purge.new.caches).items ≡ c.purge.new.caches = with_items_is c.self.inside.kept c.purge.new.caches (c.purge.auto.caches ∙ ap length c.deref_mut.ensures.value ∙ sym c.self.inside.kept.ok.0) in
-    rw (← v, w) (ap (above_off n) c.purge.ensures.caches ∙ sym (purged-above n c.args.radix.now.nodes ds))
-
-pub returns-clause-count : goal.returns-clause-count
-returns-clause-count g c =
+pub returns : goal.returns
+returns g c =
     let n = c.self.inside.lowest in
     let ds = c.deref_mut.result.now in
     let v : above_off n ds ≡ c.args.self.now = rw c.deref_mut.ensures.value c.self.view_is in
     let w : (with_items c.self.inside.kept c.purge.new.caches).items ≡ c.purge.new.caches = with_items_is c.self.inside.kept c.purge.new.caches (c.purge.auto.caches ∙ ap length c.deref_mut.ensures.value ∙ sym c.self.inside.kept.ok.0) in
     let a : entries_of (above_off n c.purge.new.caches) ≡ entries_of c.purge.new.caches = entries-above n c.purge.new.caches in
-    rw (← v, w, a, entries-above n ds) c.purge.ensures.count
+    record {
+      caches = rw (← v, w) (ap (above_off n) c.purge.ensures.caches ∙ sym (purged-above n c.args.radix.now.nodes ds));
+      count = rw (← v, w, a, entries-above n ds) c.purge.ensures.count;
+    }

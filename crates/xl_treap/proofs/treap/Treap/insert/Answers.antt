@@ -10,9 +10,8 @@ put_in-self-inside-requires c =
     let T : List ℕ → Type 0 = λ fs. IsTreap s.words.items s.root n fs (tree_at n s.words.items s.root) in
     let A : TreapState → Type 0 = λ v. IsApart 0 (with_range c.args.range v.seen.kept) in
     let can = can-put s.words.items s.root n c.in-Some.node F (tree_at n s.words.items s.root) c.args.range (subst T c.in-Some.ensures.items c.self.invariant.0) c.self.invariant.1 (subst A (sym c.self.view_is) c.requires) in
-    let W : List ℕ → Type 0 = λ ws. CanPut ws s.root n (tree_at n ws s.root) c.in-Some.node c.args.range in
     let P : List ℕ → Type 0 = λ ps. CanPut c.deref_mut.result.now s.root (length ps) (tree_at (length ps) c.deref_mut.result.now s.root) c.in-Some.node c.args.range in
-    subst P (sym c.deref_mut-in-Some.ensures.value) (subst W (sym c.deref_mut.ensures.value) can)
+    subst P (sym c.deref_mut-in-Some.ensures.value) (subst (λ (ws : List ℕ). CanPut ws s.root n (tree_at n ws s.root) c.in-Some.node c.args.range) (sym c.deref_mut.ensures.value) can)
 
 pub invariant_of-self-in-Some : goal.invariant_of-self-in-Some
 invariant_of-self-in-Some c =
@@ -21,8 +20,7 @@ invariant_of-self-in-Some c =
     let F = c.pop.new.self.items in
     let N = c.put_in-self-inside.new.words in
     let r = c.put_in-self-inside.result in
-    let T : List ℕ → Type 0 = λ fs. IsTreap s.words.items s.root n fs (tree_at n s.words.items s.root) in
-    let t = subst T c.in-Some.ensures.items c.self.invariant.0 in
+    let t = subst (λ (fs : List ℕ). IsTreap s.words.items s.root n fs (tree_at n s.words.items s.root)) c.in-Some.ensures.items c.self.invariant.0 in
     let W : List ℕ → Type 0 = λ ws. IsMade ws N r c.in-Some.node (with_range c.args.range (ranges (tree_at n ws s.root))) in
     let P : List ℕ → Type 0 = λ ps. IsMade c.deref_mut.result.now N r c.in-Some.node (with_range c.args.range (ranges (tree_at (length ps) c.deref_mut.result.now s.root))) in
     let made = subst W c.deref_mut.ensures.value (subst P c.deref_mut-in-Some.ensures.value c.put_in-self-inside.ensures) in
@@ -39,8 +37,7 @@ returns-in-Some-clause-ok c =
     let F = c.pop.new.self.items in
     let N = c.put_in-self-inside.new.words in
     let r = c.put_in-self-inside.result in
-    let T : List ℕ → Type 0 = λ fs. IsTreap s.words.items s.root n fs (tree_at n s.words.items s.root) in
-    let t = subst T c.in-Some.ensures.items c.self.invariant.0 in
+    let t = subst (λ (fs : List ℕ). IsTreap s.words.items s.root n fs (tree_at n s.words.items s.root)) c.in-Some.ensures.items c.self.invariant.0 in
     let W : List ℕ → Type 0 = λ ws. IsMade ws N r c.in-Some.node (with_range c.args.range (ranges (tree_at n ws s.root))) in
     let P : List ℕ → Type 0 = λ ps. IsMade c.deref_mut.result.now N r c.in-Some.node (with_range c.args.range (ranges (tree_at (length ps) c.deref_mut.result.now s.root))) in
     let made = subst W c.deref_mut.ensures.value (subst P c.deref_mut-in-Some.ensures.value c.put_in-self-inside.ensures) in

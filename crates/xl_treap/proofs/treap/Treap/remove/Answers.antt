@@ -8,8 +8,7 @@ key_of-key-requires c =
     let s = c.self.inside in
     let t = tree_at (length s.path.items) s.words.items s.root in
     let k = key_at c.args.space c.args.start in
-    let A : TreapState → Type 0 = λ v. list_any (has_key k) v.seen.kept ≡ true in
-    held-small k (ranges t) c.self.invariant.0.placed.apart (subst A (sym c.self.view_is) c.requires)
+    held-small k (ranges t) c.self.invariant.0.placed.apart (subst (λ (v : TreapState). list_any (has_key k) v.seen.kept ≡ true) (sym c.self.view_is) c.requires)
 
 pub invariant_of-self : goal.invariant_of-self
 invariant_of-self c =
@@ -19,12 +18,10 @@ invariant_of-self c =
     let k = key_at c.args.space c.args.start in
     let N = c.take_out-taken.new.words in
     let r = c.take_out-taken.result in
-    let A : TreapState → Type 0 = λ v. list_any (has_key k) v.seen.kept ≡ true in
-    let held = has-held k (ranges t) (subst A (sym c.self.view_is) c.requires) in
+    let held = has-held k (ranges t) (subst (λ (v : TreapState). list_any (has_key k) v.seen.kept ≡ true) (sym c.self.view_is) c.requires) in
     let W : List ℕ → Type 0 = λ ws. IsTaken ws N (tree_at n ws s.root) c.key_of-key.result r.root r.node in
     let P : List ℕ → Type 0 = λ ps. IsTaken c.deref_mut.result.now N (tree_at (length ps) c.deref_mut.result.now s.root) c.key_of-key.result r.root r.node in
-    let K : ℕ → Type 0 = λ z. IsTaken s.words.items N t z r.root r.node in
-    let taken = subst K c.key_of-key.ensures (subst W c.deref_mut.ensures.value (subst P c.deref_mut-2.ensures.value c.take_out-taken.ensures)) in
+    let taken = subst (λ (z : ℕ). IsTaken s.words.items N t z r.root r.node) c.key_of-key.ensures (subst W c.deref_mut.ensures.value (subst P c.deref_mut-2.ensures.value c.take_out-taken.ensures)) in
     let h = held-less s.words.items N s.root r.root n r.node s.free.items t (without_range k (ranges t)) c.self.invariant.0 taken.made (without-length k (ranges t) held) taken.free taken.was in
     let words : (with_items s.words N).items ≡ N = with_items_is s.words N (taken.made.len ∙ sym s.words.ok.0) in
     let path-len : length c.take_out-taken.new.path ≡ n = c.take_out-taken.auto.path ∙ ap length c.deref_mut-2.ensures.value in
@@ -40,12 +37,10 @@ returns c =
     let k = key_at c.args.space c.args.start in
     let N = c.take_out-taken.new.words in
     let r = c.take_out-taken.result in
-    let A : TreapState → Type 0 = λ v. list_any (has_key k) v.seen.kept ≡ true in
-    let held = has-held k (ranges t) (subst A (sym c.self.view_is) c.requires) in
+    let held = has-held k (ranges t) (subst (λ (v : TreapState). list_any (has_key k) v.seen.kept ≡ true) (sym c.self.view_is) c.requires) in
     let W : List ℕ → Type 0 = λ ws. IsTaken ws N (tree_at n ws s.root) c.key_of-key.result r.root r.node in
     let P : List ℕ → Type 0 = λ ps. IsTaken c.deref_mut.result.now N (tree_at (length ps) c.deref_mut.result.now s.root) c.key_of-key.result r.root r.node in
-    let K : ℕ → Type 0 = λ z. IsTaken s.words.items N t z r.root r.node in
-    let taken = subst K c.key_of-key.ensures (subst W c.deref_mut.ensures.value (subst P c.deref_mut-2.ensures.value c.take_out-taken.ensures)) in
+    let taken = subst (λ (z : ℕ). IsTaken s.words.items N t z r.root r.node) c.key_of-key.ensures (subst W c.deref_mut.ensures.value (subst P c.deref_mut-2.ensures.value c.take_out-taken.ensures)) in
     let h = held-less s.words.items N s.root r.root n r.node s.free.items t (without_range k (ranges t)) c.self.invariant.0 taken.made (without-length k (ranges t) held) taken.free taken.was in
     let words : (with_items s.words N).items ≡ N = with_items_is s.words N (taken.made.len ∙ sym s.words.ok.0) in
     let path-len : length c.take_out-taken.new.path ≡ n = c.take_out-taken.auto.path ∙ ap length c.deref_mut-2.ensures.value in

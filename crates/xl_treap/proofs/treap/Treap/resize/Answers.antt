@@ -8,8 +8,7 @@ key_of-key-requires c =
     let s = c.self.inside in
     let t = tree_at (length s.path.items) s.words.items s.root in
     let k = key_at c.args.space c.args.start in
-    let A : TreapState → Type 0 = λ v. list_any (has_key k) v.seen.kept ≡ true in
-    held-small k (ranges t) c.self.invariant.0.placed.apart (subst A (sym c.self.view_is) c.requires.held)
+    held-small k (ranges t) c.self.invariant.0.placed.apart (subst (λ (v : TreapState). list_any (has_key k) v.seen.kept ≡ true) (sym c.self.view_is) c.requires.held)
 
 pub invariant_of-self : goal.invariant_of-self
 invariant_of-self c =
@@ -21,8 +20,7 @@ invariant_of-self c =
     let N = c.give_pages.new.words in
     let W : List ℕ → Type 0 = λ ws. IsResized ws N (tree_at n ws s.root) s.root c.key_of-key.result p in
     let P : List ℕ → Type 0 = λ ps. IsResized c.deref_mut.result.now N (tree_at (length ps) c.deref_mut.result.now s.root) s.root c.key_of-key.result p in
-    let K : ℕ → Type 0 = λ z. IsResized s.words.items N t s.root z p in
-    let done = subst K c.key_of-key.ensures (subst W c.deref_mut.ensures.value (subst P c.deref_mut-2.ensures.value c.give_pages.ensures)) in
+    let done = subst (λ (z : ℕ). IsResized s.words.items N t s.root z p) c.key_of-key.ensures (subst W c.deref_mut.ensures.value (subst P c.deref_mut-2.ensures.value c.give_pages.ensures)) in
     let h = held-same s.words.items N s.root s.root n done.node s.free.items t (resized k p (ranges t)) c.self.invariant.0 done.made (resized-length k p (ranges t)) done.was in
     let words : (with_items s.words N).items ≡ N = with_items_is s.words N (done.made.len ∙ sym s.words.ok.0) in
     let path-len : length c.give_pages.new.path ≡ n = c.give_pages.auto.path ∙ ap length c.deref_mut-2.ensures.value in
@@ -39,8 +37,7 @@ returns c =
     let N = c.give_pages.new.words in
     let W : List ℕ → Type 0 = λ ws. IsResized ws N (tree_at n ws s.root) s.root c.key_of-key.result p in
     let P : List ℕ → Type 0 = λ ps. IsResized c.deref_mut.result.now N (tree_at (length ps) c.deref_mut.result.now s.root) s.root c.key_of-key.result p in
-    let K : ℕ → Type 0 = λ z. IsResized s.words.items N t s.root z p in
-    let done = subst K c.key_of-key.ensures (subst W c.deref_mut.ensures.value (subst P c.deref_mut-2.ensures.value c.give_pages.ensures)) in
+    let done = subst (λ (z : ℕ). IsResized s.words.items N t s.root z p) c.key_of-key.ensures (subst W c.deref_mut.ensures.value (subst P c.deref_mut-2.ensures.value c.give_pages.ensures)) in
     let h = held-same s.words.items N s.root s.root n done.node s.free.items t (resized k p (ranges t)) c.self.invariant.0 done.made (resized-length k p (ranges t)) done.was in
     let words : (with_items s.words N).items ≡ N = with_items_is s.words N (done.made.len ∙ sym s.words.ok.0) in
     let path-len : length c.give_pages.new.path ≡ n = c.give_pages.auto.path ∙ ap length c.deref_mut-2.ensures.value in

@@ -5,5 +5,4 @@ use Rattle.xl_treap.proofs.treap.Treap.words_read_back.Goals as goal
 pub returns : goal.returns
 returns c =
     let s = c.self.inside in
-    let W : TreapState → Type 0 = λ v. WordsReadBack v in
-    subst W c.self.view_is (read-back s.words.items s.root (length s.path.items) s.loads s.free.items c.self.invariant.0)
+    subst (λ (v : TreapState). WordsReadBack v) c.self.view_is (read-back s.words.items s.root (length s.path.items) s.loads s.free.items c.self.invariant.0)

@@ -5,12 +5,9 @@ use Rattle.xl_way.proofs.way.Way.begin_growth.Goals as goal
 pub invariant_of-self : goal.invariant_of-self
 invariant_of-self c =
     let s = c.self.inside in
-    let S : WayState → Type 0 = λ v. v.shape.regs.growing ≡ false in
-    let R : WayState → Type 0 = λ v. v.shape.regs.s < v.shape.cap in
-    let K : PlacesState → Type 0 = λ p. IsKept p.number s.cap p.regs s.slots.items s.used in
     let set : c.set.new.self ≡ record { number = s.places.number; regs = begun_regs s.places.regs } = c.set.ensures ∙ ap (λ (r : WayRegs). record { number = s.places.number; regs = begun_regs r }) c.regs.ensures in
-    subst K (sym set) (kept-begun s.places.number s.cap s.places.regs s.slots.items s.used c.self.invariant
-    (subst S (sym c.self.view_is) c.requires.still) (subst R (sym c.self.view_is) c.requires.room))
+    subst (λ (p : PlacesState). IsKept p.number s.cap p.regs s.slots.items s.used) (sym set) (kept-begun s.places.number s.cap s.places.regs s.slots.items s.used c.self.invariant
+    (subst (λ (v : WayState). v.shape.regs.growing ≡ false) (sym c.self.view_is) c.requires.still) (subst (λ (v : WayState). v.shape.regs.s < v.shape.cap) (sym c.self.view_is) c.requires.room))
 
 pub returns : goal.returns
 unfolding begun

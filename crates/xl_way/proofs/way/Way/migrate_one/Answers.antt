@@ -6,8 +6,7 @@ use Rattle.xl_way.proofs.way.Way.migrate_one.Goals as goal
 pub migrate_slot-requires-clause-room : goal.migrate_slot-requires-clause-room
 migrate_slot-requires-clause-room c =
     let s = c.self.inside in
-    let G : WayState → Type 0 = λ v. v.shape.regs.growing ≡ true in
-    let l = reach-in s.places.number s.cap s.places.regs s.slots.items s.used c.self.invariant (subst G (sym c.self.view_is) c.requires) in
+    let l = reach-in s.places.number s.cap s.places.regs s.slots.items s.used c.self.invariant (subst (λ (v : WayState). v.shape.regs.growing ≡ true) (sym c.self.view_is) c.requires) in
     let n = ap (λ (xs : List Entry). length xs) c.deref_mut.ensures.value in
     let q = ap reach c.regs-regs.ensures in
     omega arith
@@ -15,8 +14,7 @@ migrate_slot-requires-clause-room c =
 pub invariant_of-self : goal.invariant_of-self
 invariant_of-self c =
     let s = c.self.inside in
-    let G : WayState → Type 0 = λ v. v.shape.regs.growing ≡ true in
-    let done = migrate-is s.places.number s.cap s.places.regs s.slots.items s.used c.self.invariant (subst G (sym c.self.view_is) c.requires) in
+    let done = migrate-is s.places.number s.cap s.places.regs s.slots.items s.used c.self.invariant (subst (λ (v : WayState). v.shape.regs.growing ≡ true) (sym c.self.view_is) c.requires) in
     let is : c.migrate_slot.new.slots ≡ moved s.places.regs s.places.number s.slots.items =
     c.migrate_slot.ensures
     ∙ ap (λ (r : WayRegs). moved r c.number.result c.deref_mut.result.now) c.regs-regs.ensures
@@ -25,16 +23,14 @@ invariant_of-self c =
     let now : c.set.new.self ≡ record { number = s.places.number; regs = regs_after 1 s.places.regs } =
     c.set.ensures ∙ ap (λ (r : WayRegs). record { number = s.places.number; regs = r }) (c.stepped.ensures ∙ ap (regs_after 1) c.regs-regs.ensures) in
     let items = items-now s c.migrate_slot.new.slots (moved s.places.regs s.places.number s.slots.items) is (done.kept.size ∙ sym c.self.invariant.size) in
-    let K : List Entry → Type 0 = λ xs. IsKept c.set.new.self.number s.cap c.set.new.self.regs xs s.used in
     let R : PlacesState → Type 0 = λ p. IsKept p.number s.cap p.regs (moved s.places.regs s.places.number s.slots.items) s.used in
-    subst K (sym items) (subst R (sym now) done.kept)
+    subst (λ (xs : List Entry). IsKept c.set.new.self.number s.cap c.set.new.self.regs xs s.used) (sym items) (subst R (sym now) done.kept)
 
 pub returns : goal.returns
 unfolding advanced
 returns c =
     let s = c.self.inside in
-    let G : WayState → Type 0 = λ v. v.shape.regs.growing ≡ true in
-    let done = migrate-is s.places.number s.cap s.places.regs s.slots.items s.used c.self.invariant (subst G (sym c.self.view_is) c.requires) in
+    let done = migrate-is s.places.number s.cap s.places.regs s.slots.items s.used c.self.invariant (subst (λ (v : WayState). v.shape.regs.growing ≡ true) (sym c.self.view_is) c.requires) in
     let is : c.migrate_slot.new.slots ≡ moved s.places.regs s.places.number s.slots.items =
     c.migrate_slot.ensures
     ∙ ap (λ (r : WayRegs). moved r c.number.result c.deref_mut.result.now) c.regs-regs.ensures

@@ -17,8 +17,7 @@ invariant_of-self c =
     let here = held-is s.places.number s.cap s.places.regs s.slots.items s.used c.args.key at c.self.invariant c.slot-at.ensures.is (subst H (sym c.self.view_is) c.requires.held) in
     let done = reword-is s.places.number s.cap s.places.regs s.slots.items s.used c.args.key c.args.word at c.self.invariant c.slot-at.ensures.is c.requires.some here in
     let items = items-set s c.deref_mut.result.now c.exchange.new.slots at x c.deref_mut.ensures.value c.exchange.ensures.slots in
-    let K : List Entry → Type 0 = λ xs. IsKept s.places.number s.cap s.places.regs xs s.used in
-    subst K (sym items) (kept-set s.places.number s.cap s.places.regs s.slots.items s.used at x s.used c.self.invariant less
+    subst (λ (xs : List Entry). IsKept s.places.number s.cap s.places.regs xs s.used) (sym items) (kept-set s.places.number s.cap s.places.regs s.slots.items s.used at x s.used c.self.invariant less
     (λ f. sym c.slot-at.ensures.is) (λ z. absurd (let r = c.requires.some in omega arith)) (c.self.invariant.count ∙ sym done.same))
 
 pub returns : goal.returns

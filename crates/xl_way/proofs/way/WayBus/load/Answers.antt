@@ -23,11 +23,10 @@ pub returns-clause-none : goal.returns-clause-none
 returns-clause-none c =
     let s = c.self.inside in
     let S : WayState → Type 0 = λ v. IfNone c.words_of_line.result (length (words_of v.shape) < 4 * c.args.line + 4) in
-    let N : List Entry → Type 0 = λ xs. IfNone c.words_of_line.result (length xs < 2 * c.args.line + 2) in
     let W : List ℕ = words_of (way_of s.places.number s.cap s.places.regs (entries_of s.slots.items)) in
     let go : (o : Option (List ℕ)) → IfNone o (length s.slots.items < 2 * c.args.line + 2) → IfNone o (length W < 4 * c.args.line + 4) =
     λ o. elim o as (λ p. IfNone p (length s.slots.items < 2 * c.args.line + 2) → IfNone p (length W < 4 * c.args.line + 4)) [
       | None ↦ λ l. line-none s.places.number s.cap s.places.regs s.slots.items s.used c.self.invariant c.args.line l
       | Some ws ↦ λ l. tt
     ] in
-    subst S c.self.view_is (go c.words_of_line.result (subst N c.deref.ensures.value c.words_of_line.ensures.none))
+    subst S c.self.view_is (go c.words_of_line.result (subst (λ (xs : List Entry). IfNone c.words_of_line.result (length xs < 2 * c.args.line + 2)) c.deref.ensures.value c.words_of_line.ensures.none))
