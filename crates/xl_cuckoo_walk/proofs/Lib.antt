@@ -15,7 +15,6 @@ pub mod WordsLemmas
 pub mod ComparedLemmas
 pub mod VerdictLemmas
 pub mod StepLemmas
-pub mod NamedLemmas
 pub mod CacheLemmas
 pub mod SoleLemmas
 mod SectionLemmas

@@ -1,5 +1,6 @@
 -- A command that changes the mapping, where nothing refuses it: the state after it, and what harts keep.
-use Rattle.xl_harts.proofs.Common.{◌++◌, ◌+◌, ◌<◌, ◌^◌, ◌∙◌, ◌∷◌, ◌≡◌, ◌≤◌, [], after_hart_event, after_own, AllShort, answer_by, ap, arith, Bool, brought, Change, change-made, change-none, changed, changed-kept, covers, Err, Event, false, find-In, finds_place, full-none, Hart, hart_asked, hart_change, hart_rule, hart_served, HartSpec, HartsState, has_room, HasNone, held_leaves, In, Insert, inserted, is_leaf, is_some, IsAllowed, IsBlock, IsHarts, IsKept, IsLowest, IsMapping, IsNamed, IsNewLeaf, IsNewPlace, IsPoolOf, IsTable, kept_leaves, le-max_left, le-max_right, Leaf, leaf_at, leaf_at_page, leaf_named, length, List, longest, lowest-none, lowest-some, Made, made-leaves, map, mapping_changed, marked, named_rule, no-access, no-fence, no-switch, Node, None, not-full, older-mapping, Option, or-first, or-second, Order, owners, owners-after, owners_by, page_of, pages_of, Perm, plus, pool-stays, pool-with, Protect, Radix, refl, refusal_of, Remove, Request, request_of, room-none, rule, rule-allows, rule-none, Shape, shared_row, Some, state_of, subst, sym, table_after, table_answer, TableState, there_rule, true, unless-true, verdict, ℕ}
+use Rattle.xl_harts.proofs.Common.{◌++◌, ◌+◌, ◌<◌, ◌^◌, ◌∙◌, ◌∷◌, ◌≡◌, ◌≤◌, [], after_hart_event, after_own, AllShort, answer_by, ap, arith, Bool, brought, Change, change-made, change-none, changed, changed-kept, covers, Err, Event, false, find-In, finds_place, full-none, Hart, hart_asked, hart_change, hart_rule, hart_served, HartSpec, HartsState, has_room, held_leaves, In, Insert, inserted, is_leaf, is_some, IsAllowed, IsBlock, IsHarts, IsKept, IsMapping, IsNamed, IsNewLeaf, IsNewPlace, IsPoolOf, IsTable, kept_leaves, le-max_left, le-max_right, Leaf, leaf_at, leaf_at_page, leaf_named, length, List, longest, lowest-none, lowest-some, Made, made-leaves, map, mapping_changed, named_rule, no-access, no-fence, no-switch, Node, None, not-full, older-mapping, Option, or-first, or-second, Order, owners, owners-after, owners_by, page_of, pages_of, Perm, plus, pool-stays, pool-with, Protect, Radix, refl, refusal_of, Remove, Request, request_of, room-none, rule, rule-allows, rule-none, Shape, shared_row, Some, state_of, subst, sym, table_after, table_answer, TableState, there_rule, true, unless-true, verdict, ℕ}
+use Rattle.xl_frames.specs.Pool.{HasNone, IsLowest, marked}
 use Rattle.xl_model.specs.declared.work.Refused.{Refused}
 use Rattle.xl_model_lemmas.proofs.CoverLemmas.{named-by}
 use Rattle.xl_harts.proofs.RefusalLemmas.{map-at, map-change, table-limits}

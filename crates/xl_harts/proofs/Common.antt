@@ -5,7 +5,6 @@ pub use Rattle.std.proofs.lemmas.Bool.Decides.{nat_tests}
 pub use Rattle.std.proofs.lemmas.List.{get_or-set_same, length-map, set-get_or, set-set}
 pub use Rattle.std.specs.List.{list_any}
 pub use Rattle.circular_buffer.specs.Buffer.{Buffer}
-pub use Rattle.xl_frames.specs.Pool.{HasNone, IsFree, IsLowest, marked}
 pub use Rattle.xl_hart_laws.proofs.CoherenceLemmas.{coherent, opening-kept}
 pub use Rattle.xl_hart_laws.proofs.CommandLemmas.{and_first, change-made, change-none, first-none, full-none, IsAllowed, made-leaves, refused-true, room-none, rule-allows, rule-none}
 pub use Rattle.xl_hart_laws.proofs.FramePoolLemmas.{pool-stays, pool-with, pool-without}
@@ -50,7 +49,7 @@ pub use Rattle.xl_model.specs.declared.leaf.Leaf.{Leaf}
 pub use Rattle.xl_model.specs.declared.leaf.Reply.{Reply}
 pub use Rattle.xl_model.specs.declared.perm.Perm.{Perm}
 pub use Rattle.xl_model.specs.declared.work.Walk.{Walk}
-pub use Rattle.xl_model_lemmas.proofs.PoolLemmas.{free-of, lowest-none, lowest-some}
+pub use Rattle.xl_model_lemmas.proofs.PoolLemmas.{has-frames, lowest-none, lowest-some, no-frames}
 pub use Rattle.xl_model_lemmas.proofs.RuleLemmas.{has-place, HasPlace, no-overlap, or-first, or-second, unless-true}
 pub use Rattle.xl_model_lemmas.specs.Mappings.{IsLeafOf, IsMapping, IsNewLeaf, IsNewPlace}
 pub use Rattle.xl_model_lemmas.specs.Pools.{IsPoolOf}

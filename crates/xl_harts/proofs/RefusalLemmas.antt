@@ -1,9 +1,7 @@
 -- The refusals of harts, by the questions in turn, and what the table may be asked.
-use Rattle.xl_harts.proofs.Common.{◌%◌, ◌&&◌, ◌*◌, ◌+◌, ◌-◌, ◌<◌, ◌^◌, ◌∷◌, ◌≡◌, ◌≤◌, [], and_first, ap, arith, Bool, Chained, Change, change_of, change_rule, Cuckoo, Err, Event, false, first_refusal, frames_rule, free-of, get_or, hart_change, hart_refusal, hart_rule, HartSpec, HartsState, has-place, has_room, HasNone, HasPlace, Insert, is_aligned, is_full, IsBlock, IsErrAnd, IsFit, IsFree, IsHartSpec, IsLeafFor, IsLeafOf, IsPage, IsPoolOf, IsTable, kept_leaves, Leaf, leaf_at, leaf_nodes_missing, length, List, list_any, lowest-none, None, not, Ok, Option, or-first, or-second, Order, overlap_rule, page_limit, page_of, pages_of, Perm, place_rule, Protect, Radix, refl, Refusal, refusal_of, refused_unless, Relocate, Remove, Result, rule, Runs, Shape, shared_row, Some, spaces_of, subst, suc, there_rule, true, zero, ℕ}
+use Rattle.xl_harts.proofs.Common.{◌%◌, ◌&&◌, ◌*◌, ◌+◌, ◌-◌, ◌<◌, ◌^◌, ◌∷◌, ◌≡◌, ◌≤◌, [], and_first, ap, arith, Bool, Chained, Change, change_of, change_rule, Cuckoo, Err, Event, first_refusal, frames_rule, hart_change, hart_refusal, hart_rule, HartSpec, HartsState, has-place, has_room, HasPlace, Insert, is_aligned, is_full, IsBlock, IsErrAnd, IsFit, IsHartSpec, IsLeafFor, IsLeafOf, IsPage, IsTable, kept_leaves, Leaf, leaf_at, leaf_nodes_missing, List, list_any, None, not, Ok, Option, or-first, or-second, Order, overlap_rule, page_limit, page_of, pages_of, Perm, place_rule, Protect, Radix, refl, Refusal, refusal_of, refused_unless, Relocate, Remove, Result, rule, Runs, Shape, shared_row, Some, spaces_of, subst, there_rule, true, ℕ}
 use Rattle.xl_model.specs.Frames.{lowest}
-use Rattle.xl_model_lemmas.proofs.LowestLemmas.{lowest-is-lowest}
 use Rattle.xl_model_lemmas.proofs.PlaceLemmas.{page-block, pages-some}
-use Rattle.xl_model_lemmas.specs.Lowest.{IsAnswer}
 use Rattle.xl_hart_model.specs.declared.hart.HartRefusal.TheVariants as why
 use Rattle.xl_model.specs.declared.address.Mode.TheVariants as mode
 use Rattle.xl_model.specs.declared.address.Order.TheVariants as order
@@ -77,34 +75,6 @@ leaf-fit spec leaf is v =
     whole first order.K4 m = let n : first ≡ m.0 * 1 = m.1 in omega arith
     whole first order.M2 m = let n : first ≡ m.0 * 512 = m.1 in omega arith
     whole first order.G1 m = let n : first ≡ m.0 * 262144 = m.1 in omega arith
-
-inside : (pool : List Bool) (f : ℕ) → get_or pool f false ≡ true → f < length pool
-inside [] f h = absurd (cc)
-inside (x ∷ xs) zero h = omega arith
-inside (x ∷ xs) (suc f) h = let k : f < length xs = inside xs f h in omega arith
-
--- a block that is free in the pool is free of leaves, so that there is a lowest one
-pub has-frames : (frames : ℕ) (o : Order) (leaves : List Leaf) (pool : List Bool) → IsPoolOf frames leaves pool
-    → (block : ℕ) × IsFree pool (block * pages_of o) (pages_of o) → frames_rule (lowest frames o leaves) ≡ None
-has-frames frames o leaves pool tie (block, free) = go (lowest frames o leaves) (lowest-is-lowest frames o leaves)
-  where
-    some : 0 < pages_of o
-    some = pages-some o
-
-    fits : block * pages_of o + pages_of o ≤ frames
-    fits =
-        let positive = some in
-        let size : length pool ≡ frames = tie.size in
-        let last : block * pages_of o + pages_of o - 1 < length pool = inside pool (block * pages_of o + pages_of o - 1) (free.each (block * pages_of o + pages_of o - 1) (omega arith) (omega arith)) in
-        omega arith
-
-    go : (m : Option ℕ) → IsAnswer frames (pages_of o) leaves m → frames_rule m ≡ None
-    go None nothing = absurd (nothing block fits (free-of frames (block * pages_of o) (pages_of o) leaves pool tie some fits free))
-    go (Some at) is = refl
-
-pub no-frames : (frames : ℕ) (o : Order) (leaves : List Leaf) (pool : List Bool) → IsPoolOf frames leaves pool → HasNone pool (pages_of o)
-    → frames_rule (lowest frames o leaves) ≡ Some refused.NoFrames
-no-frames frames o leaves pool tie none = rw (lowest-none frames o leaves pool tie none) refl
 
 -- refusals 1 to 7
 module _ (s : HartsState) (space : ℕ) (o : Order) where

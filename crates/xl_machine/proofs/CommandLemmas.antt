@@ -1,5 +1,6 @@
 -- What a command that no rule refuses has shown: its change, the leaf that it names, the place that it takes.
-use Rattle.xl_machine.proofs.Common.{◌≡◌, arith, arrays_after, Bool, Change, change_of, changed, covers, false, find-In, frames_rule, In, Insert, is_leaf, IsBlock, IsLeafFor, IsLeafOf, IsMapping, IsNewLeaf, IsNewPlace, IsPoolOf, IsRowFor, Leaf, leaf_at_page, leaf_named, List, lowest, marked, named-by, named_rule, None, old_leaf, or-first, or-second, Order, page_of, pages_of, Perm, pool-taken, Protect, refl, Relocate, Remove, Row, rule, Some, sound-of, stays-changed, TableState, there_rule, tlb_purged, TlbState, true, unless-true, ℕ}
+use Rattle.xl_machine.proofs.Common.{◌≡◌, arith, arrays_after, Bool, Change, change_of, changed, covers, false, find-In, frames_rule, In, Insert, is_leaf, IsBlock, IsLeafFor, IsLeafOf, IsMapping, IsNewLeaf, IsNewPlace, IsPoolOf, IsRowFor, Leaf, leaf_at_page, leaf_named, List, lowest, named-by, named_rule, None, old_leaf, or-first, or-second, Order, page_of, pages_of, Perm, pool-taken, Protect, refl, Relocate, Remove, Row, rule, Some, sound-of, stays-changed, TableState, there_rule, tlb_purged, TlbState, true, unless-true, ℕ}
+use Rattle.xl_frames.specs.Pool.{marked}
 use Rattle.xl_model.specs.declared.row.Purge.{Purge}
 use Rattle.xl_model.specs.declared.event.Event.TheVariants as event
 

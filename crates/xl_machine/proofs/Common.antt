@@ -1,9 +1,8 @@
 -- The names that this crate's proofs import from elsewhere, passed on from one place. Declares nothing.
-pub use Rattle.std.proofs.Common.{◌%◌, ◌&&◌, ◌*◌, ◌+◌, ◌-◌, ◌/◌, ◌<◌, ◌==◌, ◌^◌, ◌||◌, ◌∙◌, ◌∷◌, ◌≡◌, ◌≤◌, [], ap, arith, Bool, Err, false, inl, inr, is_some, IsErrAnd, length, List, nat_le, nat_lt, None, not, Ok, Option, refl, Result, slice_index_or, Some, subst, suc, sym, true, zero, ℕ}
+pub use Rattle.std.proofs.Common.{◌%◌, ◌&&◌, ◌*◌, ◌+◌, ◌-◌, ◌/◌, ◌<◌, ◌==◌, ◌^◌, ◌||◌, ◌∙◌, ◌∷◌, ◌≡◌, ◌≤◌, [], ap, arith, Bool, Err, false, inl, inr, is_some, IsErrAnd, length, List, nat_le, nat_lt, None, not, Ok, Option, refl, Result, Some, subst, suc, sym, true, zero, ℕ}
 pub use Rattle.std.proofs.lemmas.Bool.Decides.{nat_tests}
 pub use Rattle.std.specs.List.{list_all, list_any}
 pub use Rattle.std.specs.Prelude.{IfSome, replicate}
-pub use Rattle.xl_frames.specs.Pool.{HasNone, IsFree, marked}
 pub use Rattle.xl_list_lemmas.proofs.MemberLemmas.{any-In, find-In, find-passes, In-any, same-tests}
 pub use Rattle.xl_list_lemmas.specs.Members.{In}
 pub use Rattle.xl_model.specs.Addresses.{allows, is_aligned, levels_of, pages_of}
@@ -41,8 +40,9 @@ pub use Rattle.xl_model.specs.declared.work.Work.{Work}
 pub use Rattle.xl_model_lemmas.proofs.ChangeLemmas.{changed-In, first-small, stays-changed}
 pub use Rattle.xl_model_lemmas.proofs.CoverLemmas.{covered-is, named-by}
 pub use Rattle.xl_model_lemmas.proofs.FreshArrayLemmas.{changed-fresh, filled-fresh, hit-fresh, opening-fresh, without-fresh}
+pub use Rattle.xl_model_lemmas.proofs.PlaceLemmas.{page-block, pages-some}
 pub use Rattle.xl_model_lemmas.proofs.PoolChangeLemmas.{new-In, old-In, pool-given, pool-removed, pool-taken}
-pub use Rattle.xl_model_lemmas.proofs.PoolLemmas.{free-of, lowest-none, lowest-some}
+pub use Rattle.xl_model_lemmas.proofs.PoolLemmas.{has-frames, lowest-none, lowest-some, no-frames}
 pub use Rattle.xl_model_lemmas.proofs.RuleLemmas.{kept-sound, new-place, or-first, or-second, sound-of, unless-true}
 pub use Rattle.xl_model_lemmas.specs.Fresh.{ArraysFresh}
 pub use Rattle.xl_model_lemmas.specs.Mappings.{IsLeafOf, IsMapping, IsNewLeaf, IsNewPlace, IsSound}

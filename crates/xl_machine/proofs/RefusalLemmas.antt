@@ -1,44 +1,6 @@
 -- The refusals of a machine, by its questions in turn.
-use Rattle.xl_machine.proofs.Common.{◌*◌, ◌+◌, ◌-◌, ◌<◌, ◌^◌, ◌∷◌, ◌≡◌, ◌≤◌, [], ap, arith, Bool, Err, false, frames_rule, free-of, HasNone, is_aligned, IsBlock, IsErrAnd, IsFree, IsPoolOf as IsPool, IsPoolOf, IsRowFor, Leaf, length, levels_of, List, lowest, lowest-none, None, Ok, Option, Order, overlap_rule, page_of, pages_of, Perm, place_rule, refl, Refusal, Result, Row, rule, rule_of, Served, slice_index_or, Some, subst, suc, TableState, there_of, true, zero, ℕ}
-use Rattle.xl_model_lemmas.proofs.LowestLemmas.{lowest-is-lowest}
-use Rattle.xl_model_lemmas.proofs.PlaceLemmas.{page-block, pages-some}
-use Rattle.xl_model_lemmas.specs.Lowest.{IsAnswer}
+use Rattle.xl_machine.proofs.Common.{◌*◌, ◌+◌, ◌-◌, ◌<◌, ◌^◌, ◌∷◌, ◌≡◌, ◌≤◌, [], ap, arith, Err, frames_rule, is_aligned, IsBlock, IsErrAnd, IsRowFor, levels_of, List, lowest, None, Ok, Option, Order, overlap_rule, page-block, page_of, pages_of, Perm, place_rule, refl, Refusal, Result, Row, rule, rule_of, Served, Some, subst, TableState, there_of, true, ℕ}
 use Rattle.xl_model.specs.declared.event.Event.TheVariants as event
-use Rattle.xl_model.specs.declared.event.Refusal.TheVariants as refused
-
--- a block that is free in the pool is free of leaves, so that there is a lowest one
-pub has-frames : (frames : ℕ) (o : Order) (leaves : List Leaf) (pool : List Bool) → IsPoolOf frames leaves pool
-    → (block : ℕ) × IsFree pool (block * pages_of o) (pages_of o) → frames_rule (lowest frames o leaves) ≡ None
-has-frames frames o leaves pool tie (block, free) = go (lowest frames o leaves) (lowest-is-lowest frames o leaves)
-  where
-    inside : (pool : List Bool) (f : ℕ) → slice_index_or pool f false ≡ true → f < length pool
-    inside [] f h = absurd (cc)
-    inside (x ∷ xs) zero h = omega arith
-    inside (x ∷ xs) (suc f) h = let k : f < length xs = inside xs f h in omega arith
-
-    some : 0 < pages_of o
-    some = pages-some o
-
-    fits : block * pages_of o + pages_of o ≤ frames
-    fits =
-        let positive = some in
-        let size : length pool ≡ frames = tie.size in
-        let last : block * pages_of o + pages_of o - 1 < length pool =
-        inside pool (block * pages_of o + pages_of o - 1) (free.each (block * pages_of o + pages_of o - 1) (omega arith) (omega arith)) in
-        omega arith
-
-    pool_is : IsPool frames leaves pool
-    pool_is = record { size = tie.size; each = tie.each }
-
-    go : (m : Option ℕ) → IsAnswer frames (pages_of o) leaves m → frames_rule m ≡ None
-    go None nothing = absurd (nothing block fits (free-of frames (block * pages_of o) (pages_of o) leaves pool pool_is some fits free))
-    go (Some at) is = refl
-
-pub no-frames : (frames : ℕ) (o : Order) (leaves : List Leaf) (pool : List Bool) → IsPoolOf frames leaves pool → HasNone pool (pages_of o)
-    → frames_rule (lowest frames o leaves) ≡ Some refused.NoFrames
-no-frames frames o leaves pool tie none =
-    let pool_is : IsPool frames leaves pool = record { size = tie.size; each = tie.each } in
-    rw (lowest-none frames o leaves pool pool_is none) refl
 
 -- a block that the table can be asked for
 pub block-in : (row : Row) (table : TableState) (space va : ℕ) (o : Order) → IsRowFor row table → space < row.spaces → is_aligned o va ≡ true

@@ -190,7 +190,6 @@ own-node x = rw (eq-eqb x.space x.space refl, eq-eqb x.level x.level refl, eq-eq
 
 -- the nodes of the mapping with a leaf more: those that have numbers, and those that the leaf lacks
 module _ (levels spaces : ℕ) (leaf : Leaf) (leaves : List Leaf) (numbers : List (Option Node)) (some : 0 < levels) (a : AreNumbered levels spaces leaves numbers) where
-
   abbrev gone : List Node
   gone = lacking leaf.space leaf.first (level_of leaf.order) (levels - 1 - level_of leaf.order) numbers
 

@@ -23,6 +23,8 @@ unfoldable pub use Rattle.xl_model.specs.Mapping.{leaf_at_page, leaf_named, meet
 pub use Rattle.xl_model.specs.Placing.{after_attempt, after_placing, AtCap, Attempt, begins, begun_if_full, by_occupant, Candidate, Displaced, Fails, forced_moves, growths_left, holder_from, is_held, next_way, no_moves, Placed, Placing, put_in, settled_way, start_way, Succeeds, to_grow, way_at, with_growth}
 unfoldable pub use Rattle.xl_model.specs.Placing.{attempt, forced, insertion, place, placing, settled}
 pub use Rattle.xl_model.specs.Rows.{Row}
+pub use Rattle.xl_model.specs.Rules.{frames_rule, insert_at, or_else, overlap_rule, place_rule, unless}
+unfoldable pub use Rattle.xl_model.specs.Rules.{change_of, rule}
 pub use Rattle.xl_model.specs.Sections.{counts_for, holds_order, same_section, same_way, Section, section_count, section_key, section_keys, with_key}
 unfoldable pub use Rattle.xl_model.specs.Sections.{section_of}
 pub use Rattle.xl_model.specs.Shapes.{brought, Chained, Cuckoo, CuckooWays, narrowed, Radix, Runs, Shape, ways_of, widened}

@@ -1,4 +1,4 @@
--- The orders of leaves, and places in pages and frames: leaves that share one, and blocks that a command names.
+-- The orders of leaves, and places in pages and frames that leaves share or a command names.
 use Rattle.xl_model_lemmas.proofs.Common.{◌%◌, ◌*◌, ◌+◌, ◌/◌, ◌<◌, ◌^◌, ◌≡◌, ◌≤◌, arith, covers, eq-eqb, false, holds_frames, is_aligned, is_leaf, Leaf, leaf_key, level_of, levels_of, meets_block, Mode, nat_le, nat_tests, Order, page_of, pages_of, refl, same_order, true, ℕ}
 use Rattle.xl_model.specs.declared.address.Mode.TheVariants as mode
 use Rattle.xl_model.specs.declared.address.Order.TheVariants as order

@@ -82,7 +82,7 @@ Succeeded C Fails = Unit {0}
 pub attempt-by : (I : List WayShape → ℕ → Entry → List Displaced → Type 0) (C : List WayShape → List Displaced → Type 0)
     → ((ways : List WayShape) (at : ℕ) (hand : Entry) (moved : List Displaced) → I ways at hand moved → occupant (way_at ways at) hand.key ≡ None → C (put_in ways at hand) moved)
     → ((ways : List WayShape) (at : ℕ) (hand : Entry) (moved : List Displaced) (y : Entry) → I ways at hand moved → occupant (way_at ways at) hand.key ≡ Some y
-        → I (put_in ways at hand) (next_way (length ways) at) y (moved ++ record { key = y.key; way = next_way (length ways) at } ∷ []))
+    → I (put_in ways at hand) (next_way (length ways) at) y (moved ++ record { key = y.key; way = next_way (length ways) at } ∷ []))
     → (left : ℕ) (ways : List WayShape) (at : ℕ) (hand : Entry) (moved : List Displaced) → I ways at hand moved → Succeeded C (attempt left ways at hand moved)
 unfolding attempt
 attempt-by I C done next zero ways at hand moved h = go (occupant (way_at ways at) hand.key) refl
@@ -97,7 +97,7 @@ attempt-by I C done next (suc left) ways at hand moved h =
   where
     go : (o : Option Entry) → occupant (way_at ways at) hand.key ≡ o
         → ((y : Entry) → occupant (way_at ways at) hand.key ≡ Some y
-            → Succeeded C (attempt left (put_in ways at hand) (next_way (length ways) at) y (moved ++ record { key = y.key; way = next_way (length ways) at } ∷ [])))
+        → Succeeded C (attempt left (put_in ways at hand) (next_way (length ways) at) y (moved ++ record { key = y.key; way = next_way (length ways) at } ∷ [])))
         → Succeeded C (by_occupant o (Succeeds (put_in ways at hand) moved)
         (λ y. attempt left (put_in ways at hand) (next_way (length ways) at) y (moved ++ record { key = y.key; way = next_way (length ways) at } ∷ [])))
     go None none rest = done ways at hand moved h none

@@ -1,7 +1,8 @@
 -- The lowest free block of a pool is the lowest block that no leaf holds. For the machine.
-use Rattle.xl_model_lemmas.proofs.Common.{◌*◌, ◌+◌, ◌<◌, ◌∙◌, ◌≡◌, ◌≤◌, any-In, ap, arith, Bool, false, HasNone, holds_frames, In, In-any, IsAnswer, IsFree, IsFreeOf, IsLowest, IsPoolOf, Leaf, length, List, list_any, lowest, nat_le, nat_tests, None, not, Option, Order, pages_of, refl, slice_index_or, Some, subst, sym, true, ℕ}
+use Rattle.xl_model_lemmas.proofs.Common.{◌*◌, ◌+◌, ◌-◌, ◌<◌, ◌∙◌, ◌∷◌, ◌≡◌, ◌≤◌, [], any-In, ap, arith, Bool, false, frames_rule, HasNone, holds_frames, In, In-any, IsAnswer, IsFree, IsFreeOf, IsLowest, IsPoolOf, Leaf, length, List, list_any, lowest, nat_le, nat_tests, None, not, Option, Order, pages_of, refl, slice_index_or, Some, subst, suc, sym, true, zero, ℕ}
 use Rattle.xl_model_lemmas.proofs.LowestLemmas.{lowest-is-lowest}
 use Rattle.xl_model_lemmas.proofs.PlaceLemmas.{pages-some}
+use Rattle.xl_model.specs.declared.event.Refusal.TheVariants as refused
 
 -- a leaf that holds a frame of a block holds some frame of it
 shared : (at size : ℕ) (x : Leaf) → 0 < size → 0 < pages_of x.order → holds_frames at size x ≡ true → (f : ℕ) × (at ≤ f) × (f < at + size) × (holds_frames f 1 x ≡ true)
@@ -99,3 +100,31 @@ none-by frames o leaves pool tie none (Some b) is =
 
 pub lowest-none : (frames : ℕ) (o : Order) (leaves : List Leaf) (pool : List Bool) → IsPoolOf frames leaves pool → HasNone pool (pages_of o) → lowest frames o leaves ≡ None
 lowest-none frames o leaves pool tie nothing = none-by frames o leaves pool tie nothing (lowest frames o leaves) (lowest-is-lowest frames o leaves)
+
+inside : (pool : List Bool) (f : ℕ) → slice_index_or pool f false ≡ true → f < length pool
+inside [] f h = absurd (cc)
+inside (x ∷ xs) zero h = omega arith
+inside (x ∷ xs) (suc f) h = let k : f < length xs = inside xs f h in omega arith
+
+-- a block that is free in the pool is free of leaves, so that there is a lowest one
+pub has-frames : (frames : ℕ) (o : Order) (leaves : List Leaf) (pool : List Bool) → IsPoolOf frames leaves pool
+    → (block : ℕ) × IsFree pool (block * pages_of o) (pages_of o) → frames_rule (lowest frames o leaves) ≡ None
+has-frames frames o leaves pool tie (block, free) = go (lowest frames o leaves) (lowest-is-lowest frames o leaves)
+  where
+    some : 0 < pages_of o
+    some = pages-some o
+
+    fits : block * pages_of o + pages_of o ≤ frames
+    fits =
+        let positive = some in
+        let size : length pool ≡ frames = tie.size in
+        let last : block * pages_of o + pages_of o - 1 < length pool = inside pool (block * pages_of o + pages_of o - 1) (free.each (block * pages_of o + pages_of o - 1) (omega arith) (omega arith)) in
+        omega arith
+
+    go : (m : Option ℕ) → IsAnswer frames (pages_of o) leaves m → frames_rule m ≡ None
+    go None nothing = absurd (nothing block fits (free-of frames (block * pages_of o) (pages_of o) leaves pool tie some fits free))
+    go (Some at) is = refl
+
+pub no-frames : (frames : ℕ) (o : Order) (leaves : List Leaf) (pool : List Bool) → IsPoolOf frames leaves pool → HasNone pool (pages_of o)
+    → frames_rule (lowest frames o leaves) ≡ Some refused.NoFrames
+no-frames frames o leaves pool tie none = rw (lowest-none frames o leaves pool tie none) refl

@@ -1,6 +1,5 @@
 -- What a command that no refusal stops has shown of its leaf.
-use Rattle.xl_model_lemmas.proofs.Common.{◌<◌, ◌∷◌, ◌≡◌, [], arith, Bool, Change, changed, false, first_so, Insert, is_aligned, is_canonical, IsAnswer, IsMapping, IsNewPlace, IsSound, Leaf, List, list_all, lowest, meets_any, nat_lt, nat_tests, None, not-true, Option, Order, page_of, pages_of, Perm, Protect, refl, Relocate, Remove, Row, second_so, Some, subst, true, ℕ}
-use Rattle.xl_model.specs.Rules.{change_of, insert_at, or_else, overlap_rule, place_rule, rule, unless}
+use Rattle.xl_model_lemmas.proofs.Common.{◌<◌, ◌∷◌, ◌≡◌, [], arith, Bool, Change, change_of, changed, false, first_so, Insert, insert_at, is_aligned, is_canonical, IsAnswer, IsMapping, IsNewPlace, IsSound, Leaf, List, list_all, lowest, meets_any, nat_lt, nat_tests, None, not-true, Option, or_else, Order, overlap_rule, page_of, pages_of, Perm, place_rule, Protect, refl, Relocate, Remove, Row, rule, second_so, Some, subst, true, unless, ℕ}
 use Rattle.xl_model.specs.declared.event.Event.{Event}
 use Rattle.xl_model.specs.declared.event.Refusal.{Refusal}
 use Rattle.xl_model_lemmas.proofs.LowestLemmas.{lowest-is-lowest}

@@ -91,7 +91,6 @@ record IsNewest (g : ℕ) (b : Block) (seen new : List Leaf) : Type 0 where
   moved : new ≡ touched (covers_guest g) seen
 
 module _ (g : ℕ) (b c : Block) where
-
   by-second : (s : Bool) (leaves : List Leaf) → IsFirst b leaves → IsSecond c leaves → (0 < c.pages → 0 < b.pages) → has_page b g ≡ false → has_page c g ≡ true
       → IsNewest g c (in_order s leaves) (exchanged leaves)
   by-second s [] first second beside following has = let k : 0 < c.pages = some-page c g has in absurd (omega arith)

@@ -80,9 +80,7 @@ stack-raised low middle top low' middle' top' n s a b c =
 
 -- three levels with a number taken out
 module _ (low middle top low' : List ℕ) (n : ℕ) (s : IsStack low middle top) (there : bit_of low n ≡ 1) (a : IsPut low low' n 0) where
-
   module _ (empty : slice_index low' (n / 64) ≡ 0) (middle' : List ℕ) (b : IsPut middle middle' (n / 64) 0) where
-
     pub stack-top : slice_index middle' (n / 64 / 64) ≡ 0 → (top' : List ℕ) → IsPut top top' (n / 4096) 0 → IsStack low' middle' top'
     stack-top none top' c =
         let up : n / 4096 ≡ n / 64 / 64 = omega arith in

@@ -1,5 +1,5 @@
 -- The names that this crate's proofs import from elsewhere, passed on from one place. Declares nothing.
-pub use Rattle.std.proofs.Common.{◌%◌, ◌&&◌, ◌*◌, ◌+◌, ◌-◌, ◌/◌, ◌<◌, ◌==◌, ◌^◌, ◌||◌, ◌∙◌, ◌∷◌, ◌≡◌, ◌≤◌, ◌⊎◌, [], ap, arith, Bool, cond, Err, false, filter, find, inl, inr, is_some, length, List, nat_le, nat_lt, None, Ok, Option, refl, Result, rules, Some, subst, suc, sym, true, zero, ℕ}
+pub use Rattle.std.proofs.Common.{◌%◌, ◌&&◌, ◌*◌, ◌+◌, ◌-◌, ◌/◌, ◌<◌, ◌==◌, ◌^◌, ◌||◌, ◌∙◌, ◌∷◌, ◌≡◌, ◌≤◌, ◌⊎◌, [], ap, arith, Bool, cond, Err, false, filter, find, inl, inr, is_some, length, List, nat_le, nat_lt, None, Ok, Option, refl, Result, Some, subst, suc, sym, true, zero, ℕ}
 pub use Rattle.std.proofs.lemmas.Bool.Decides.{nat_tests}
 pub use Rattle.std.specs.List.{list_any}
 pub use Rattle.xl_list_lemmas.proofs.MemberLemmas.{any-find, find-In, find-passes, In-any, both as same-bools, same-tests}

@@ -1,9 +1,8 @@
 -- A tree is hung under the end of a way.
 use Rattle.xl_treap.proofs.Common.{◌*◌, ◌+◌, ◌-◌, ◌<◌, ◌==◌, ◌∙◌, ◌≡◌, ◌≤◌, ◌⊎◌, ap, arith, beyond, Bin, child, down, Each, end_key, false, graft, inl, InOrder, inr, IsAt, IsAttached, IsEmpty, IsHung, IsLined, Keeps, length, List, nat_tests, Off, on_side, parent_at, Range, range_key, refl, SameLine, SameOff, Side, side_at, side_in, slice_index, subst, suc, sym, Tip, toward, Tree, true, with_child, zero, ℕ}
-use Rattle.xl_treap.proofs.FrameLemmas.{at-keeps, Hung, hung, hung-side, off-side}
 use Rattle.xl_treap.proofs.GraftLemmas.{graft-next, lift, off-down}
 use Rattle.xl_treap.proofs.OrderLemmas.{at-side}
-use Rattle.xl_treap.proofs.WayLemmas.{at-there, down-next, order-down}
+use Rattle.xl_treap.proofs.WayLemmas.{at-keeps, at-there, down-next, Hung, hung, hung-side, off-side, order-down}
 
 pub same-or-not : (m n : ℕ) → (m ≡ n) ⊎ (m ≡ n → ⊥)
 same-or-not m n = elim (m == n) as (λ b. (m == n) ≡ b → (m ≡ n) ⊎ (m ≡ n → ⊥)) [

@@ -1,9 +1,8 @@
 -- A tree is parted at a key, from the end of the key's way up.
 use Rattle.xl_treap.proofs.Common.{◌*◌, ◌+◌, ◌-◌, ◌<◌, ◌^◌, ◌∙◌, ◌≡◌, ◌≤◌, ap, arith, beyond, Bin, CanPart, child, cut, cut_by, down, Every, false, High, InOrder, is_above, IsAt, IsCut, IsHeap, IsHung, length, List, Low, Off, on_side, Over, Range, range_key, refl, SameLine, Side, side_at, side_in, slice_index, subst, suc, sym, Tip, TopOver, toward, Tree, true, with_child, ℕ}
 use Rattle.xl_treap.proofs.AboveLemmas.{above-total, over-chain}
-use Rattle.xl_treap.proofs.FrameLemmas.{at-keeps, each-map, frame, Hung, hung, linked-line, linked-three, off-side}
 use Rattle.xl_treap.proofs.OrderLemmas.{at-side}
-use Rattle.xl_treap.proofs.WayLemmas.{at-there, down-next, heap-down, order-down}
+use Rattle.xl_treap.proofs.WayLemmas.{at-keeps, at-there, down-next, each-map, frame, heap-down, Hung, hung, linked-line, linked-three, off-side, order-down}
 
 -- what each of a tree's nodes is, each node of its two parts is
 pub every-cut : (P : ℕ → Range → Type 0) (s : Side) (k : ℕ) (t : Tree) → Every P t → Every P (cut s k t)

@@ -1,9 +1,8 @@
 -- Another tree n steps down a path: the ranges, the priorities and the words of the whole.
 use Rattle.xl_treap.proofs.Common.{◌%◌, ◌++◌, ◌/◌, ◌<◌, ◌==◌, ◌^◌, ◌∙◌, ◌∷◌, ◌≡◌, ◌≤◌, ◌⊎◌, [], ap, append_assoc, arith, beyond, Bin, cond, cut, cut_by, down, Each, end_key, false, graft, High, In, In-left, In-right, inl, InOrder, inr, is_above, IsAt, IsHeap, link_at, List, Low, nat_lt, nat_tests, Off, on_side, Over, pick-no, pick-yes, Range, range_key, ranges, refl, resized, SameLine, SameOff, Side, side_at, subst, suc, sym, Tip, toward, Tree, true, with_child, with_range, without_range, zero, ℕ}
 use Rattle.xl_treap.proofs.CutLemmas.{over-cut}
-use Rattle.xl_treap.proofs.FrameLemmas.{apart-sides, at-keeps, each-map, frame, node-same, off-side}
 use Rattle.xl_treap.proofs.OrderLemmas.{at-side, at-with, on-either, order-In, order-side, side, side-high, side-low}
-use Rattle.xl_treap.proofs.WayLemmas.{every-down}
+use Rattle.xl_treap.proofs.WayLemmas.{apart-sides, at-keeps, each-map, every-down, frame, node-same, off-side}
 
 pub down-In : (y : Range) (t : Tree) (k d : ℕ) → In y (ranges (down t k d)) → In y (ranges t)
 down-In y t k zero i = i

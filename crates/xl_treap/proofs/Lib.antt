@@ -5,7 +5,6 @@ pub mod OrderLemmas
 pub mod AboveLemmas
 pub mod FoundLemmas
 pub mod WayLemmas
-pub mod FrameLemmas
 pub mod CutLemmas
 pub mod GraftLemmas
 pub mod AttachLemmas

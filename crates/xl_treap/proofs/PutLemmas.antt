@@ -3,10 +3,9 @@ use Rattle.xl_treap.proofs.Common.{◌*◌, ◌+◌, ◌-◌, ◌<◌, ◌^◌, 
 use Rattle.xl_treap.proofs.AboveLemmas.{above-chain}
 use Rattle.xl_treap.proofs.AttachLemmas.{Attached, attached, IsParent, lined-line, off-child, off-empty, parent-there, same-or-not, top-each}
 use Rattle.xl_treap.proofs.CutLemmas.{every-cut, over-cut}
-use Rattle.xl_treap.proofs.FrameLemmas.{at-keeps, each-map, frame, linked-line, linked-three, node-same}
 use Rattle.xl_treap.proofs.GraftLemmas.{cut-with, down-In, graft-next, graft-with, heap-cut, heap-graft, heap-with}
 use Rattle.xl_treap.proofs.OrderLemmas.{apart-within, fit-end, order-apart, side, within-In}
-use Rattle.xl_treap.proofs.WayLemmas.{down-next, every-down, heap-down, order-down}
+use Rattle.xl_treap.proofs.WayLemmas.{at-keeps, down-next, each-map, every-down, frame, heap-down, linked-line, linked-three, node-same, order-down}
 
 with-In : (x : Range) (xs : List Range) → In x (with_range x xs)
 with-In x [] = inl refl

@@ -1,8 +1,7 @@
 -- A tree to come is linked from the end of its way up.
 use Rattle.xl_treap.proofs.Common.{◌*◌, ◌+◌, ◌-◌, ◌<◌, ◌∙◌, ◌≡◌, ◌≤◌, arith, Bin, CanMerge, CanRise, child, down, Half, High, InOrder, IsAt, IsHung, IsNode, IsSpine, Keeps, length, List, Low, merge, on_side, Pair, Range, range_key, refl, SameBut, Side, side_at, side_in, slice_index, subst, suc, sym, Tip, toward, Tree, with_child, ℕ}
-use Rattle.xl_treap.proofs.FrameLemmas.{at-keeps, Hung, hung, hung-side, linked-three, off-side}
 use Rattle.xl_treap.proofs.MergeLemmas.{merge-every, merge-order}
-use Rattle.xl_treap.proofs.WayLemmas.{down-next, every-down, order-down}
+use Rattle.xl_treap.proofs.WayLemmas.{at-keeps, down-next, every-down, Hung, hung, hung-side, linked-three, off-side, order-down}
 
 with-own : (c : Side) (n : ℕ) (x : Range) (l r : Tree) → with_child c (Bin n x l r) (on_side c l r) ≡ Bin n x l r
 with-own Low n x l r = refl

@@ -2,11 +2,10 @@
 use Rattle.xl_treap.proofs.Common.{◌%◌, ◌*◌, ◌++◌, ◌+◌, ◌-◌, ◌/◌, ◌<◌, ◌==◌, ◌^◌, ◌∙◌, ◌∷◌, ◌≡◌, ◌≤◌, ◌⊎◌, [], any-In, ap, arith, Bin, CanMerge, CanTake, child, cond, down, Each, end_key, false, graft, has_key, High, In, In-append, In-left, In-right, inl, InOrder, inr, IsApart, IsAt, IsAttached, IsHeap, IsResized, IsRisen, IsSized, IsTaken, IsWay, Keeps, length, link_at, List, list_any, Low, merge, nat_tests, node_word, Off, on_side, Over, parent_at, Range, range_key, ranges, refl, resized, SameLine, SameOff, Side, side_at, slice_index, subst, suc, sym, Tip, toward, Tree, tree_at, true, without_range, zero, ℕ}
 use Rattle.xl_treap.proofs.AttachLemmas.{Attached, attached, IsParent, off-child, off-empty, parent-there}
 use Rattle.xl_treap.proofs.FoundLemmas.{tree-is}
-use Rattle.xl_treap.proofs.FrameLemmas.{at-keeps, each-map, frame, linked-three, off-side}
 use Rattle.xl_treap.proofs.GraftLemmas.{alike, graft-resized, graft-without, Has, heap-graft, lift, resized-before, without-before}
 use Rattle.xl_treap.proofs.MergeLemmas.{merge-every, merge-heap, merge-over, merge-ranges}
 use Rattle.xl_treap.proofs.OrderLemmas.{apart-within, at-side, fit-end, on-either, order-apart, order-In, order-side, order-wider, side, side-high, side-low, sizes, within-In}
-use Rattle.xl_treap.proofs.WayLemmas.{at-there, down-next, heap-down, order-down}
+use Rattle.xl_treap.proofs.WayLemmas.{at-keeps, at-there, down-next, each-map, frame, heap-down, linked-three, off-side, order-down}
 
 -- lists without a range
 pub without-apart : (low k : ℕ) (xs : List Range) → IsApart low xs → IsApart low (without_range k xs)

@@ -2,8 +2,8 @@ use Rattle.xl_cuckoo_walk.proofs.Common.{◌%◌, ◌&&◌, ◌*◌, ◌++◌, �
 use Rattle.xl_cuckoo_walk.proofs.BitLemmas.{and-first, and-second}
 use Rattle.xl_cuckoo_walk.proofs.HoldLemmas.{beside-now, by-rules, entered, entry-key, fit-leaf, free-key, free-now, holds-changed, holds-row, IsTableFor, room-leaf, roomy-leaf}
 use Rattle.xl_cuckoo_walk.proofs.IndexLemmas.{each-size, each-way, size-stays, ways-table, with-ways-in}
-use Rattle.xl_cuckoo_walk.proofs.NamedLemmas.{word-some}
 use Rattle.xl_cuckoo_walk.proofs.RowLemmas.{leaves-known}
+use Rattle.xl_cuckoo_walk.proofs.StepLemmas.{word-some}
 use Rattle.xl_cuckoo_walk.proofs.VerdictLemmas.{no-place, no-space, room-both, state_by}
 use Rattle.xl_model.specs.declared.address.Order.TheVariants as order
 use Rattle.xl_model.specs.declared.work.NoRoom.TheVariants as why

@@ -3,9 +3,8 @@ use Rattle.xl_model_lemmas.proofs.SortedLemmas.{with-without}
 use Rattle.xl_cuckoo_walk.proofs.ComparedLemmas.{both_keys, compared-row, compared-twice, ComparedRow, WordsStay}
 use Rattle.xl_cuckoo_walk.proofs.HoldLemmas.{apart-leaf, few-ways, fit-leaf, free-now}
 use Rattle.xl_cuckoo_walk.proofs.LookLemmas.{block-parts}
-use Rattle.xl_cuckoo_walk.proofs.NamedLemmas.{by-name, named-held, named-leaf, NamedLeaf, to-name}
 use Rattle.xl_cuckoo_walk.proofs.RowLemmas.{leaves-known}
-use Rattle.xl_cuckoo_walk.proofs.StepLemmas.{answered, counted-row, entered-room, keys_entered, less-cached, SteppedRow, words-entered, words-left}
+use Rattle.xl_cuckoo_walk.proofs.StepLemmas.{answered, by-name, counted-row, entered-room, keys_entered, less-cached, named-held, named-leaf, NamedLeaf, SteppedRow, to-name, words-entered, words-left}
 use Rattle.xl_cuckoo_walk.proofs.VerdictLemmas.{made, made_answer, refused-same, room-both, state_made}
 use Rattle.xl_cuckoo_walk.proofs.relocate.relocate_leaf.Given.{Over}
 use Rattle.xl_model.specs.declared.address.Order.TheVariants as order

@@ -2,7 +2,7 @@ use Rattle.xl_cuckoo_walk.proofs.Common.{◌∙◌, ◌≡◌, ap, AreTied, by_s
 use Rattle.xl_cuckoo_walk.proofs.CountLemmas.{shared-is}
 use Rattle.xl_cuckoo_walk.proofs.HoldLemmas.{entry-key, left-leaf}
 use Rattle.xl_cuckoo_walk.proofs.IndexLemmas.{each-size, size-stays, ways-table}
-use Rattle.xl_cuckoo_walk.proofs.NamedLemmas.{by-name, named-held, NamedLeaf}
+use Rattle.xl_cuckoo_walk.proofs.StepLemmas.{by-name, named-held, NamedLeaf}
 use Rattle.xl_model.specs.declared.address.Order.TheVariants as order
 use Rattle.xl_cuckoo_walk.proofs.remove.leave.Goals as goal
 

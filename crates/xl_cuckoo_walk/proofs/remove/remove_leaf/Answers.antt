@@ -1,7 +1,6 @@
 use Rattle.xl_cuckoo_walk.proofs.Common.{◌-◌, ap, lit<, no_moves, Remove, row_state, Work}
 use Rattle.xl_cuckoo_walk.proofs.HoldLemmas.{few-ways}
-use Rattle.xl_cuckoo_walk.proofs.NamedLemmas.{named-leaf, NamedLeaf}
-use Rattle.xl_cuckoo_walk.proofs.StepLemmas.{counted-row, less-cached, removed-by, SteppedRow}
+use Rattle.xl_cuckoo_walk.proofs.StepLemmas.{counted-row, less-cached, named-leaf, NamedLeaf, removed-by, SteppedRow}
 use Rattle.xl_cuckoo_walk.proofs.remove.remove_leaf.Given.{Over}
 use Rattle.xl_model.specs.declared.address.Order.TheVariants as order
 use Rattle.xl_cuckoo_walk.proofs.remove.remove_leaf.Goals as goal

@@ -36,9 +36,11 @@ invariant_of-self g c =
     let s = c.self.inside in
     let p = goal.at.invariant_of-self g c in
     let a = p.After-unlink-entry in
-    let F : List ℕ → Type 0 = λ fs. IsTable s.shape (with_items s.words c.unlink-entry.new.words).items fs in
-    (subst F (sym c.in-Ok.ensures.items) (subst (λ (ws : List ℕ). IsTable s.shape ws (s.free.items ++ c.unlink-entry.result ∷ [])) (sym (words g a)) (done g a (place g p.After-self)).table),
-    c.self.invariant.1, (let q = c.in-Ok.ensures.capacity in let l = c.self.invariant.2 in omega arith))
+    let F : List ℕ → Type 0 = λ fs. IsTable s.shape (with_items s.words c.unlink-entry.new.words).items fs in (
+      subst F (sym c.in-Ok.ensures.items) (subst (λ (ws : List ℕ). IsTable s.shape ws (s.free.items ++ c.unlink-entry.result ∷ [])) (sym (words g a)) (done g a (place g p.After-self)).table),
+      c.self.invariant.1,
+      (let q = c.in-Ok.ensures.capacity in let l = c.self.invariant.2 in omega arith),
+    )
 
 pub returns-clause-taken : goal.returns-clause-taken
 returns-clause-taken g c =

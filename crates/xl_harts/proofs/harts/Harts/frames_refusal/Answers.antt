@@ -1,5 +1,4 @@
-use Rattle.xl_harts.proofs.Common.{kept_leaves, row_table, state_of, sym}
-use Rattle.xl_harts.proofs.RefusalLemmas.{has-frames, no-frames}
+use Rattle.xl_harts.proofs.Common.{has-frames, kept_leaves, no-frames, row_table, state_of, sym}
 use Rattle.xl_harts.proofs.harts.Harts.frames_refusal.Goals as goal
 
 pub returns-then-can_take : goal.returns-then-can_take

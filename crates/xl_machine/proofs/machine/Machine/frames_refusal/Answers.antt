@@ -1,5 +1,4 @@
-use Rattle.xl_machine.proofs.Common.{row_of, sym}
-use Rattle.xl_machine.proofs.RefusalLemmas.{has-frames, no-frames}
+use Rattle.xl_machine.proofs.Common.{has-frames, no-frames, row_of, sym}
 use Rattle.xl_machine.proofs.machine.Machine.frames_refusal.Goals as goal
 
 pub returns-then-can_take : goal.returns-then-can_take

@@ -1,4 +1,4 @@
-use Rattle.xl_way.proofs.Common.{◌+◌, ◌<◌, ◌∙◌, ◌≡◌, ap, arith, cell, entries_of, Entry, IsKept, List, None, occupant, refl, rules, set, subst, swapped, sym, WayState, with_items}
+use Rattle.xl_way.proofs.Common.{◌+◌, ◌<◌, ◌∙◌, ◌≡◌, ap, arith, cell, entries_of, Entry, IsKept, List, None, occupant, refl, set, subst, swapped, sym, WayState, with_items}
 use Rattle.xl_way.proofs.FieldLemmas.{inside-now, items-set, swapped-now}
 use Rattle.xl_way.proofs.WayLemmas.{few-used, kept-set, occupant-is, some-word, standing_in, swap-back, swap-more, way_of}
 use Rattle.xl_way.proofs.way.Way.swap.Goals as goal
@@ -86,5 +86,5 @@ returns-else-left-eq0 c =
           ap (λ (xs : List Entry). occupant (way_of s.places.number s.cap s.places.regs (entries_of xs)) c.exchange-left.result.key) items
           ∙ ap (λ (e : Entry). occupant (way_of s.places.number s.cap s.places.regs (entries_of (set s.slots.items at x))) e.key) left
           ∙ done.again;
-      full = search rules;
+      full = full;
     }
