@@ -1,2 +1,1 @@
-mod WordLemmas
 mod ReadyLemmas

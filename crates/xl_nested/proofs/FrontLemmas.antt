@@ -114,8 +114,6 @@ word-found b g w x o e is has word =
     subst (λ (y : Option Leaf). IsFound (host_page g) (Some w) y) (sym e) said
 
 -- a hit in the first leaf, and in the second
-module _ (g w : ℕ) (f : Fronts) (leaves : List Leaf) (is : IsFronts f leaves) (small : w < 2 ^ 49) where
-
 -- the second leaf is moved to the front
 exchanged-fronts : (f : Fronts) (leaves : List Leaf) → IsFronts f leaves → 0 < f.second.pages → IsFronts (record { first = f.second; second = f.first; swapped = false }) (exchanged leaves)
 exchanged-fronts f leaves is pos = record {

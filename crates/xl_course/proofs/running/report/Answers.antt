@@ -102,8 +102,6 @@ module _ {K : Type 0} (sink : SinkMeaning K) (a b c : K) (end after : Result (Un
   proceeds_flushed : FlushesEnd sink b c end after → Proceeds (is_all_put end) (sink.outside a) (sink.outside b) → Proceeds (is_all_put after) (sink.outside a) (sink.outside c)
   proceeds_flushed h goes = proceeds_by goes (flush_kind sink b c end after h)
 
-module _ {D : Type 0} (folder : FolderMeaning D) (old new : D) where
-
 -- a flush that fails is a failed put, so NoMemory is from before the flush
 unflushed : (whole : Bool) (end : Result (Unit {0}) Stop) → end_flushed whole end ≡ Err why.NoMemory → end ≡ Err why.NoMemory
 unflushed true end h = h
