@@ -1,4 +1,4 @@
-use Rattle.xl_course.proofs.Common.{◌∙◌, ◌≡◌, ◌⊎◌, Account, account, ap, arith, Bool, course, end_flushed, Ends, EndsAs, Err, false, Files, FlushAfter, FlushesEnd, FolderMeaning, front_of_more, front_written, inl, inr, is_all_put, IsFlushed, IsMore, joined, length, List, Ok, Option, Outside, Proceeds, proceeds_then, refl, Result, SinkMeaning, states_after, Stop, subst, sym, take_all, text_of, true, with_more, WroteFront, ℕ}
+use Rattle.xl_course.proofs.Common.{◌∙◌, ◌≡◌, ◌⊎◌, Account, account, ap, arith, Bool, course, end_flushed, Ends, EndsAs, Err, false, Files, FlushAfter, FlushesEnd, front_of_more, front_written, inl, inr, is_all_put, IsFlushed, IsMore, joined, length, List, Ok, Option, Outside, Proceeds, proceeds_then, refl, Result, SinkMeaning, states_after, Stop, subst, sym, take_all, text_of, true, with_more, WroteFront, ℕ}
 use Rattle.xl_outside.specs.Fronts.{with_none}
 use Rattle.xl_course.proofs.EndLemmas.{front_text}
 use Rattle.xl_course.proofs.KnownLemmas.{known_one}
