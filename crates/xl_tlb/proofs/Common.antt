@@ -30,21 +30,22 @@ pub use Rattle.xl_model.specs.declared.row.Serves.{Serves}
 pub use Rattle.xl_model.specs.declared.row.TlbSpec.{TlbSpec}
 pub use Rattle.xl_recency.specs.Lists.{items_in}
 pub use Rattle.xl_recency.specs.declared.item.Item.{Item}
-pub use Rattle.xl_tlb.specs.Answers.{IsFirstReplied, IsLooked, IsNowhere, IsPageWord, IsSmallWord, IsWord}
+pub use Rattle.xl_tlb.specs.Answers.{IsAnswered, IsLooked, IsNowhere, IsPageWord, IsWord}
 pub use Rattle.xl_tlb.specs.Any.{array_in}
 pub use Rattle.xl_tlb.specs.Arrays.{covers_anywhere, covers_anywhere_as, is_any, is_in_set, is_of_space, is_same, IsArray, IsFit}
 pub use Rattle.xl_tlb.specs.Coding.{has_block, has_space, has_tag, is_item, leaves_of}
 unfoldable pub use Rattle.xl_tlb.specs.Coding.{leaf_of, tag_of}
 pub use Rattle.xl_tlb.specs.Equal.{is_equal, keeps_leaf}
 pub use Rattle.xl_tlb.specs.Founds.{found_leaf, replied_of}
-pub use Rattle.xl_tlb.specs.Fronts.{AllMiss, AreMissed, FirstHit, FirstLeaf, FirstMisses, Front, FrontsStay, HasEights, IsFirstHit, IsFirstLeaf, IsFirstMiss, IsFront, IsFrontHit, IsSecondHit, IsTouch, SecondHit}
+pub use Rattle.xl_tlb.specs.Counted.{answered_as, one_more_at, seen_in}
+pub use Rattle.xl_tlb.specs.Fits.{fits_in}
+pub use Rattle.xl_tlb.specs.Fronts.{FrontsStay, HasEights, IsFront, IsFrontHit, IsTouch}
 pub use Rattle.xl_tlb.specs.Held.{Counts, IsKnown, IsSmall}
 pub use Rattle.xl_tlb.specs.Hits.{hit_leaf, hit_touched, leaf_hit, word_touched}
 pub use Rattle.xl_tlb.specs.Known.{IsKey, Knows, no_key}
-pub use Rattle.xl_tlb.specs.Paths.{AllServe, IsPath, IsTlb}
-pub use Rattle.xl_tlb.specs.Lookup.{IsFill, IsFilled, IsLookup, IsTouched}
-pub use Rattle.xl_tlb.specs.Splits.{alone, AreSplit, AreThree, as_all, AtFetch, AtKind, AtLoad, AtStore, first_for, first_of_kind, IsEither, IsKept, IsPairFill, IsPairLook, IsSplit, IsSplitFill, IsSplitLook, IsSplitWord}
-pub use Rattle.xl_tlb.specs.Tlbs.{bumped_where, fills_replied, hits_up_to, IsAlone, IsRising, IsStraight, leaf_replied, looked_arrays, looked_by, misses_up_to, NoneBelow, ServesAlone, spec_of, tlb_of, TlbState, Replied, replied}
+pub use Rattle.xl_tlb.specs.Lookup.{IsFill, IsFilled, IsRequest, IsLookup, IsTouched}
+pub use Rattle.xl_tlb.specs.Shapes.{all_first, Alone, alone_at, AreJoint, AreSplit, AreThree, AreTwo, AtBoth, AtFetch, AtKind, AtLoad, AtOne, AtStore, Both, first_of_kind, FitsJoint, FitsOne, FitsSplit, IsAloneFill, IsAloneLook, IsKept, IsKnownAnswer, IsKnownFill, IsKnownWord, IsOne, IsPairFill, IsPairLook}
+pub use Rattle.xl_tlb.specs.Tlbs.{bumped_where, fills_replied, hits_up_to, IsRising, IsTlb, leaf_replied, looked_arrays, looked_by, misses_up_to, NoneBelow, spec_of, tlb_of, TlbState, Replied, replied}
 unfoldable pub use Rattle.xl_tlb.specs.Tlbs.{tlb_fenced, tlb_filled, tlb_looked, tlb_opening, tlb_purged}
 pub use Rattle.xl_tlb.specs.declared.coding.Hit.{Hit}
 pub use Rattle.xl_tlb.specs.declared.newest.MruPages.{MruPages}
