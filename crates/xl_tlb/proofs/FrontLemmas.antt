@@ -1,5 +1,5 @@
 -- A leaf of 4 KiB that answers a look, and arrays of higher levels.
-use Rattle.xl_tlb.proofs.Common.{Bool, IsFrontHit, IsRising, IsTouch, Kind, Leaf, List, NoneBelow, Option, Some, TlbArray, TlbSpec, [], ap, arith, array_filled, array_hit, array_touched, counted, covers_as, false, filled_where, find, found_as, get_or, get_or-set_same, hits_up_to, is_some, length, map, misses_up_to, nat_le, nat_tests, not, one_more_where, refl, serves_kind, set, set-get_or, set_at, set_number, small_leaf, spec_of, subst, suc, sym, take, takes_order, touched, true, where_taken, with_newest, without_first, word_touched, zero, ℕ, ◌%◌, ◌&&◌, ◌*◌, ◌/◌, ◌<◌, ◌∙◌, ◌∷◌, ◌≡◌, ◌≤◌}
+use Rattle.xl_tlb.proofs.Common.{◌%◌, ◌&&◌, ◌*◌, ◌/◌, ◌<◌, ◌∙◌, ◌∷◌, ◌≡◌, ◌≤◌, [], ap, arith, array_filled, array_hit, array_touched, Bool, counted, covers_as, false, filled_where, find, found_as, get_or, get_or-set_same, hits_up_to, is_some, IsFrontHit, IsRising, IsTouch, Kind, Leaf, length, List, map, misses_up_to, nat_le, nat_tests, NoneBelow, not, one_more_where, Option, refl, serves_kind, set, set-get_or, set_at, set_number, small_leaf, Some, spec_of, subst, suc, sym, take, takes_order, TlbArray, TlbSpec, touched, true, where_taken, with_newest, without_first, word_touched, zero, ℕ}
 use Rattle.xl_tlb.proofs.LevelLemmas.{and_false}
 use Rattle.xl_model.specs.declared.address.Order.TheVariants as order
 

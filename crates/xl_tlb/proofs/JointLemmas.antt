@@ -1,10 +1,9 @@
 -- Two arrays that serve all accesses: a look in both, as a look at all.
-use Rattle.xl_tlb.proofs.Common.{AreJoint, AreTwo, AtBoth, Both, FitsJoint, HasEights, IsFill, IsFront, IsFrontHit, IsKept, IsKnownAnswer, IsKnownWord, IsPairFill, IsPairLook, IsRising, IsTlb, Kind, Knows, List, MruPages, None, Lookup, TlbArray, TlbState, [], all_first, alone_at, answered_as, ap, arith, length, map, one_more_at, plus, refl, seen_in, set_number, spec_of, tlb_of, ℕ, ◌<◌, ◌^◌, ◌∷◌, ◌≡◌, ◌≤◌}
+use Rattle.xl_tlb.proofs.Common.{◌<◌, ◌^◌, ◌∷◌, ◌≡◌, ◌≤◌, [], all_first, alone_at, answered_as, ap, AreJoint, AreTwo, arith, AtBoth, Both, FirstLacks, HasEights, IsFill, IsFront, IsFrontHit, IsKept, IsKnownAnswer, IsKnownWord, IsPairFill, IsPairLook, IsRising, IsTlb, IsWord, Kind, length, List, Lookup, map, None, one_more_at, plus, refl, Seen, seen_in, set_number, spec_of, tlb_of, TlbArray, ℕ}
 use Rattle.xl_tlb.proofs.FrontLemmas.{front_touch, hit_front}
 use Rattle.xl_tlb.proofs.StayLemmas.{fill_others, kept_at, OtherSets, touch_others}
-use Rattle.xl_tlb.proofs.StepLemmas.{IsLookAt, IsSeen, IsUnder, last_filled, pair_specs, seen_none, seen_word, two_first, two_nowhere, two_second}
+use Rattle.xl_tlb.proofs.StepLemmas.{above_beyond, IsLookAt, IsSeen, IsUnder, large_word, last_filled, look_hit, pair_specs, seen_none, seen_word, two_first, two_nowhere, two_second}
 use Rattle.xl_tlb.proofs.TlbLemmas.{filled_first, kept_state, serves_all}
-use Rattle.xl_tlb.specs.declared.pair.Seen.{Seen}
 use Rattle.xl_model.specs.declared.address.Order.TheVariants as order
 use Rattle.xl_tlb.specs.declared.pair.Seen.TheVariants as seen
 
@@ -42,8 +41,17 @@ module _ (k : Kind) (space page word : ℕ) (hits misses : List ℕ) (fills : �
       let y = two misses fewer in
       rw (is.1.0, is.1.1, x.3, y.3) (two_nowhere k space page word fills a s (are_under k a s joint) rising.0 x.0 x.1 x.2 y.0 y.1 y.2 is.0.0 is.0.1)
 
-both_unknown : (space page : ℕ) (arrays new : List TlbArray) → AtBoth (IsPairLook space page seen.Unknown) arrays new → new ≡ arrays
-both_unknown space page _ _ (Both a s new after is) = rw (is.0, is.1) refl
+  both_large : (arrays new : List TlbArray) → AtBoth (IsPairLook space page (seen.Large word)) arrays new → AreJoint (map spec_of arrays) → IsRising (map spec_of arrays) → fills < 2 ^ 64
+      → IsWord k space page word (tlb_of arrays hits misses fills) (tlb_of new (one_more_at 0 hits) misses fills)
+  both_large _ _ (Both a s new after is) joint rising small =
+      let x = two hits few in
+      let y = two misses fewer in
+      let u = are_under k a s joint in
+      rw (is.1, x.3, y.3) (large_word k space page word fills (record { leaf = is.0.leaf; level = a.spec.level; fills = 0 }) (a ∷ s ∷ []) (new ∷ s ∷ []) (x.0 ∷ x.1 ∷ x.2) (plus x.0 1 ∷ x.1 ∷ x.2) (y.0 ∷ y.1 ∷ y.2) (y.0 ∷ y.1 ∷ y.2)
+      (look_hit k space page is.0.leaf a new (s ∷ []) x.0 (x.1 ∷ x.2) y.0 (y.1 ∷ y.2) u.served is.0.found is.0.moved rising.0 (above_beyond k a.spec.level s u.below, tt)) refl is.0.says small)
+
+both_unknown : (space page : ℕ) (arrays new : List TlbArray) → AtBoth (IsPairLook space page seen.Unknown) arrays new → FirstLacks space page (alone_at 0 arrays) × (new ≡ arrays)
+both_unknown space page _ _ (Both a s new after is) = (is.0, rw (is.1.0, is.1.1) refl)
 
 pub joint_answer : (saw : Seen) (k : Kind) (space page : ℕ) (arrays new : List TlbArray) (hits misses : List ℕ) (fills : ℕ) → 2 ≤ length hits → 2 ≤ length misses → fills < 2 ^ 64
     → AreJoint (map spec_of arrays) → IsRising (map spec_of arrays) → AtBoth (IsPairLook space page saw) arrays new
@@ -54,9 +62,12 @@ joint_answer (seen.First word) k space page arrays new hits misses fills few few
 joint_answer (seen.Second word) k space page arrays new hits misses fills few fewer small joint rising is =
     let s = both_second k space page word hits misses fills few fewer arrays new is joint rising in
     seen_word all_first k space page word fills (plus fills 1) arrays new hits (one_more_at 1 hits) misses (one_more_at 0 misses) s.0 s.1
+joint_answer (seen.Large word) k space page arrays new hits misses fills few fewer small joint rising is = both_large k space page word hits misses fills few fewer arrays new is joint rising small
 joint_answer seen.Nowhere k space page arrays new hits misses fills few fewer small joint rising is =
     seen_none k space page fills arrays new hits hits misses (one_more_at 1 (one_more_at 0 misses)) (both_nowhere k space page 0 hits misses fills few fewer arrays new is joint rising)
-joint_answer seen.Unknown k space page arrays new hits misses fills few fewer small joint rising is = ap (λ (z : List TlbArray). tlb_of z hits misses fills) (both_unknown space page arrays new is)
+joint_answer seen.Unknown k space page arrays new hits misses fills few fewer small joint rising is =
+    let u = both_unknown space page arrays new is in
+    (u.0, ap (λ (z : List TlbArray). tlb_of z hits misses fills) u.1)
 
 -- a fill of both
 pub joint_filled : (q : Lookup) (word : ℕ) (k : Kind) (arrays new : List TlbArray) → AtBoth (IsPairFill q.space q.page word) arrays new → AreJoint (map spec_of arrays)
@@ -83,10 +94,6 @@ joint_front k space page word arrays hits misses fills few fewer small joint ris
 pub no_third : (a s : TlbArray) (rest : List TlbArray) → AreJoint (map spec_of (a ∷ s ∷ rest)) → rest ≡ []
 no_third a s [] joint = refl
 no_third a s (t ∷ rest) joint = absurd joint
-
--- what is known stays so
-pub joint_fits : (newest : MruPages) (old new : TlbState) → AreJoint (map spec_of old.arrays) → map spec_of new.arrays ≡ map spec_of old.arrays → Knows newest (alone_at 0 new.arrays) → FitsJoint newest new
-joint_fits newest old new joint specs knows = record { joint = rw specs joint; knows = knows }
 
 pub joint_eights : (arrays : List TlbArray) → AreJoint (map spec_of arrays) → HasEights (alone_at 0 arrays)
 joint_eights [] joint = absurd joint

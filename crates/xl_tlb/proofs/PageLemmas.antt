@@ -1,5 +1,5 @@
 -- The word of a page of a leaf.
-use Rattle.xl_tlb.proofs.Common.{IsPageWord, Order, arith, leaf_with, pages_of, perm_at, refl, small_leaf, ℕ, ◌%◌, ◌*◌, ◌+◌, ◌-◌, ◌/◌, ◌<◌, ◌^◌, ◌≡◌}
+use Rattle.xl_tlb.proofs.Common.{◌%◌, ◌*◌, ◌+◌, ◌-◌, ◌/◌, ◌<◌, ◌^◌, ◌≡◌, arith, IsPageWord, leaf_with, Order, pages_of, perm_at, refl, small_leaf, ℕ}
 
 -- a permission is four bits, and a frame is above them
 same_perm : (word following : ℕ) → perm_at ((word + following * 16) % 2 ^ 64) ≡ perm_at word

@@ -1,10 +1,9 @@
 -- Three arrays, one for fetches, one for data, and one for both: a look in the two of a kind, as a look at all.
-use Rattle.xl_tlb.proofs.Common.{AreSplit, AreThree, AtFetch, AtKind, AtLoad, AtStore, FitsSplit, HasEights, IsFill, IsFront, IsFrontHit, IsKept, IsKnownAnswer, IsKnownWord, IsPairFill, IsPairLook, IsRising, IsTlb, IsTouch, Kind, Knows, List, MruPages, None, Serves, Some, Lookup, TlbArray, TlbState, Replied, [], alone_at, answered_as, ap, arith, array_filled, array_hit, false, first_of_kind, get_or, inl, inr, length, map, one_more_at, plus, refl, seen_in, serves_as, serves_kind, set, set_number, small_leaf, spec_of, subst, sym, tlb_of, true, ℕ, ◌++◌, ◌<◌, ◌^◌, ◌∙◌, ◌∷◌, ◌≡◌, ◌≤◌, ◌⊎◌}
+use Rattle.xl_tlb.proofs.Common.{◌++◌, ◌<◌, ◌^◌, ◌∙◌, ◌∷◌, ◌≡◌, ◌≤◌, ◌⊎◌, [], alone_at, answered_as, ap, AreSplit, AreThree, arith, array_filled, array_hit, AtFetch, AtKind, AtLoad, AtStore, false, first_of_kind, FirstLacks, FitsSplit, get_or, HasEights, inl, inr, IsFill, IsFront, IsFrontHit, IsKept, IsKnownAnswer, IsKnownWord, IsLargeTouch, IsPairFill, IsPairLook, IsRising, IsTlb, IsTouch, IsWord, Kind, Knows, length, List, Lookup, map, MruPages, None, one_more_at, plus, refl, Replied, Seen, seen_in, Serves, serves_as, serves_kind, set, set_number, small_leaf, Some, spec_of, subst, sym, tlb_of, TlbArray, true, ℕ}
 use Rattle.xl_tlb.proofs.FrontLemmas.{array_found, front_touch, hit_front}
 use Rattle.xl_tlb.proofs.StayLemmas.{fill_others, kept_at, OtherSets, touch_others}
-use Rattle.xl_tlb.proofs.StepLemmas.{above_beyond, filled_past, filled_replied, IsLookAt, IsSeen, IsUnder, last_filled, look_next, look_hit, look_none, look_passed, other_beyond, pair_specs, seen_hit, seen_none, seen_passed, seen_word, two_first, two_nowhere, two_second}
+use Rattle.xl_tlb.proofs.StepLemmas.{above_beyond, filled_past, filled_replied, IsLookAt, IsSeen, IsUnder, large_word, last_filled, look_hit, look_next, look_none, look_passed, other_beyond, pair_specs, seen_hit, seen_none, seen_passed, seen_word, two_first, two_nowhere, two_second}
 use Rattle.xl_tlb.proofs.TlbLemmas.{filled_first, kept_state, serves_all}
-use Rattle.xl_tlb.specs.declared.pair.Seen.{Seen}
 use Rattle.xl_model.specs.declared.address.Kind.TheVariants as kind
 use Rattle.xl_model.specs.declared.address.Order.TheVariants as order
 use Rattle.xl_tlb.specs.declared.pair.Seen.TheVariants as seen
@@ -74,6 +73,13 @@ module _ (space page : ℕ) (f d s : TlbArray) (is : AreThree f.spec d.spec s.sp
         let mid = look_passed k space page None d (s ∷ []) (s ∷ []) h1 (h2 ∷ hs) (h2 ∷ hs) m1 (m2 ∷ ms) (plus m2 1 ∷ ms) fetch_serves.1 rising.1.0 last in
         look_next k space page None f f (d ∷ s ∷ []) (d ∷ s ∷ []) h0 (h1 ∷ h2 ∷ hs) (h1 ∷ h2 ∷ hs) m0 (m1 ∷ m2 ∷ ms) (m1 ∷ plus m2 1 ∷ ms) fetch_serves.0 missed rising.0 refl mid
 
+    fetch_large : (new : TlbArray) → IsLargeTouch space page word f new → fills < 2 ^ 64
+        → IsWord kind.Fetch space page word (tlb_of (f ∷ d ∷ s ∷ []) (h0 ∷ h1 ∷ h2 ∷ hs) (m0 ∷ m1 ∷ m2 ∷ ms) fills) (tlb_of (new ∷ d ∷ s ∷ []) (plus h0 1 ∷ h1 ∷ h2 ∷ hs) (m0 ∷ m1 ∷ m2 ∷ ms) fills)
+    fetch_large new t small =
+        large_word kind.Fetch space page word fills (record { leaf = t.leaf; level = f.spec.level; fills = 0 }) (f ∷ d ∷ s ∷ []) (new ∷ d ∷ s ∷ []) (h0 ∷ h1 ∷ h2 ∷ hs) (plus h0 1 ∷ h1 ∷ h2 ∷ hs) (m0 ∷ m1 ∷ m2 ∷ ms) (m0 ∷ m1 ∷ m2 ∷ ms)
+        (look_hit kind.Fetch space page t.leaf f new (d ∷ s ∷ []) h0 (h1 ∷ h2 ∷ hs) m0 (m1 ∷ m2 ∷ ms) fetch_serves.0 t.found t.moved rising.0
+        (other_beyond kind.Fetch f.spec.level d fetch_serves.1, (above_beyond kind.Fetch f.spec.level s is.one.below, tt))) refl t.says small
+
     -- for data
     module _ (k : Kind) (passed : serves_kind k f ≡ false) (served : serves_kind k d ≡ true) where
       data_first : (new : TlbArray) → IsTouch space page word d new → fills < 2 ^ 64
@@ -93,6 +99,14 @@ module _ (space page : ℕ) (f d s : TlbArray) (is : AreThree f.spec d.spec s.sp
       data_nowhere missed none =
           look_passed k space page None f (d ∷ s ∷ []) (d ∷ s ∷ []) h0 (h1 ∷ h2 ∷ hs) (h1 ∷ h2 ∷ hs) m0 (m1 ∷ m2 ∷ ms) (plus m1 1 ∷ plus m2 1 ∷ ms) passed rising.0
           (two_nowhere k space page word fills d s (under k f d s served is) rising.1.0 h1 h2 hs m1 m2 ms missed none)
+
+      data_large : (new : TlbArray) → IsLargeTouch space page word d new → fills < 2 ^ 64
+          → IsWord k space page word (tlb_of (f ∷ d ∷ s ∷ []) (h0 ∷ h1 ∷ h2 ∷ hs) (m0 ∷ m1 ∷ m2 ∷ ms) fills) (tlb_of (f ∷ new ∷ s ∷ []) (h0 ∷ plus h1 1 ∷ h2 ∷ hs) (m0 ∷ m1 ∷ m2 ∷ ms) fills)
+      data_large new t small =
+          let x : Replied = record { leaf = t.leaf; level = d.spec.level; fills = 0 } in
+          let l = look_hit k space page t.leaf d new (s ∷ []) h1 (h2 ∷ hs) m1 (m2 ∷ ms) served t.found t.moved rising.1.0 (above_beyond k d.spec.level s is.other.below, tt) in
+          large_word k space page word fills x (f ∷ d ∷ s ∷ []) (f ∷ new ∷ s ∷ []) (h0 ∷ h1 ∷ h2 ∷ hs) (h0 ∷ plus h1 1 ∷ h2 ∷ hs) (m0 ∷ m1 ∷ m2 ∷ ms) (m0 ∷ m1 ∷ m2 ∷ ms)
+          (look_passed k space page (Some x) f (d ∷ s ∷ []) (new ∷ s ∷ []) h0 (h1 ∷ h2 ∷ hs) (plus h1 1 ∷ h2 ∷ hs) m0 (m1 ∷ m2 ∷ ms) (m1 ∷ m2 ∷ ms) passed rising.0 l) refl t.says small
 
 -- The same for the arrays as they are, and what is known of those in front.
 module _ (space page word : ℕ) (hits misses : List ℕ) (fills : ℕ) (few : 3 ≤ length hits) (fewer : 3 ≤ length misses) where
@@ -134,6 +148,25 @@ module _ (space page word : ℕ) (hits misses : List ℕ) (fills : ℕ) (few : 3
       let served : serves_kind kind.Store d ≡ true = ap (λ (x : Serves). serves_as x kind.Store) split.loads in
       rw (a.4, b.4) (data_second space page f d s split rising a.0 a.1 a.2 a.3 b.0 b.1 b.2 b.3 fills word kind.Store passed served new after is.0.0.0 is.0.0.1 is.0.1, store_kept space page word f d s new after is.1 (fill_others space page word d new is.0.1))
 
+  split_large : (k : Kind) (arrays new : List TlbArray) → AtKind (IsPairLook space page (seen.Large word)) k arrays new → AreSplit (map spec_of arrays) → IsRising (map spec_of arrays) → fills < 2 ^ 64
+      → IsWord k space page word (tlb_of arrays hits misses fills) (tlb_of new (one_more_at (first_of_kind k) hits) misses fills)
+  split_large _ _ _ (AtFetch f d s new after is) split rising small =
+      let a = three hits few in
+      let b = three misses fewer in
+      rw (is.1, a.4, b.4) (fetch_large space page f d s split rising a.0 a.1 a.2 a.3 b.0 b.1 b.2 b.3 fills word new is.0 small)
+  split_large _ _ _ (AtLoad f d s new after is) split rising small =
+      let a = three hits few in
+      let b = three misses fewer in
+      let passed : serves_kind kind.Load f ≡ false = ap (λ (x : Serves). serves_as x kind.Load) split.fetches in
+      let served : serves_kind kind.Load d ≡ true = ap (λ (x : Serves). serves_as x kind.Load) split.loads in
+      rw (is.1, a.4, b.4) (data_large space page f d s split rising a.0 a.1 a.2 a.3 b.0 b.1 b.2 b.3 fills word kind.Load passed served new is.0 small)
+  split_large _ _ _ (AtStore f d s new after is) split rising small =
+      let a = three hits few in
+      let b = three misses fewer in
+      let passed : serves_kind kind.Store f ≡ false = ap (λ (x : Serves). serves_as x kind.Store) split.fetches in
+      let served : serves_kind kind.Store d ≡ true = ap (λ (x : Serves). serves_as x kind.Store) split.loads in
+      rw (is.1, a.4, b.4) (data_large space page f d s split rising a.0 a.1 a.2 a.3 b.0 b.1 b.2 b.3 fills word kind.Store passed served new is.0 small)
+
   split_nowhere : (k : Kind) (arrays new : List TlbArray) → AtKind (IsPairLook space page seen.Nowhere) k arrays new → AreSplit (map spec_of arrays) → IsRising (map spec_of arrays)
       → IsLookAt k space page None arrays new hits hits misses (one_more_at 2 (one_more_at (first_of_kind k) misses))
   split_nowhere _ _ _ (AtFetch f d s new after is) split rising =
@@ -153,10 +186,10 @@ module _ (space page word : ℕ) (hits misses : List ℕ) (fills : ℕ) (few : 3
       let served : serves_kind kind.Store d ≡ true = ap (λ (x : Serves). serves_as x kind.Store) split.loads in
       rw (is.1.0, is.1.1, a.4, b.4) (data_nowhere space page f d s split rising a.0 a.1 a.2 a.3 b.0 b.1 b.2 b.3 fills word kind.Store passed served is.0.0 is.0.1)
 
-split_unknown : (k : Kind) (space page : ℕ) (arrays new : List TlbArray) → AtKind (IsPairLook space page seen.Unknown) k arrays new → new ≡ arrays
-split_unknown _ space page _ _ (AtFetch f d s new after is) = rw (is.0, is.1) refl
-split_unknown _ space page _ _ (AtLoad f d s new after is) = rw (is.0, is.1) refl
-split_unknown _ space page _ _ (AtStore f d s new after is) = rw (is.0, is.1) refl
+split_unknown : (k : Kind) (space page : ℕ) (arrays new : List TlbArray) → AtKind (IsPairLook space page seen.Unknown) k arrays new → FirstLacks space page (alone_at (first_of_kind k) arrays) × (new ≡ arrays)
+split_unknown _ space page _ _ (AtFetch f d s new after is) = (is.0, rw (is.1.0, is.1.1) refl)
+split_unknown _ space page _ _ (AtLoad f d s new after is) = (is.0, rw (is.1.0, is.1.1) refl)
+split_unknown _ space page _ _ (AtStore f d s new after is) = (is.0, rw (is.1.0, is.1.1) refl)
 
 pub split_answer : (saw : Seen) (k : Kind) (space page : ℕ) (arrays new : List TlbArray) (hits misses : List ℕ) (fills : ℕ) → 3 ≤ length hits → 3 ≤ length misses → fills < 2 ^ 64
     → AreSplit (map spec_of arrays) → IsRising (map spec_of arrays) → AtKind (IsPairLook space page saw) k arrays new
@@ -167,9 +200,12 @@ split_answer (seen.First word) k space page arrays new hits misses fills few few
 split_answer (seen.Second word) k space page arrays new hits misses fills few fewer small split rising is =
     let s = split_second space page word hits misses fills few fewer k arrays new is split rising in
     seen_word first_of_kind k space page word fills (plus fills 1) arrays new hits (one_more_at 2 hits) misses (one_more_at (first_of_kind k) misses) s.0 s.1
+split_answer (seen.Large word) k space page arrays new hits misses fills few fewer small split rising is = split_large space page word hits misses fills few fewer k arrays new is split rising small
 split_answer seen.Nowhere k space page arrays new hits misses fills few fewer small split rising is =
     seen_none k space page fills arrays new hits hits misses (one_more_at 2 (one_more_at (first_of_kind k) misses)) (split_nowhere space page 0 hits misses fills few fewer k arrays new is split rising)
-split_answer seen.Unknown k space page arrays new hits misses fills few fewer small split rising is = ap (λ (z : List TlbArray). tlb_of z hits misses fills) (split_unknown k space page arrays new is)
+split_answer seen.Unknown k space page arrays new hits misses fills few fewer small split rising is =
+    let u = split_unknown k space page arrays new is in
+    (u.0, ap (λ (z : List TlbArray). tlb_of z hits misses fills) u.1)
 
 module _ (q : Lookup) (word : ℕ) where
   data_filled : (k : Kind) (f d s new after : TlbArray) → serves_kind k f ≡ false → serves_kind k d ≡ true → AreThree f.spec d.spec s.spec → serves_kind k s ≡ true → IsPairFill q.space q.page word d s new after
@@ -217,17 +253,19 @@ split_front k space page word arrays hits misses fills few fewer small split ris
     split_answer (seen.First word) k space page arrays arrays hits misses fills few fewer small split rising (front_look space page word k arrays split front)
 
 -- what is known stays so
-module _ (of_fetches of_data : MruPages) (old new : TlbState) (is : FitsSplit of_fetches of_data old) (specs : map spec_of new.arrays ≡ map spec_of old.arrays) where
-  pub fetch_known : (space page word : ℕ) (known : MruPages) → IsKept first_of_kind kind.Fetch space page word old.arrays new.arrays → Knows known (alone_at 0 new.arrays) → FitsSplit known of_data new
+module _ (of_fetches of_data pages : MruPages) (old new : List TlbArray) (is : FitsSplit of_fetches of_data pages old) (specs : map spec_of new ≡ map spec_of old) where
+  pub fetch_known : (space page word : ℕ) (known : MruPages) → IsKept first_of_kind kind.Fetch space page word old new → Knows known (alone_at 0 new) → FitsSplit known of_data pages new
   fetch_known space page word known kept knows = record {
     split = rw specs is.split;
+    none = is.none;
     fetches = knows;
     loads = rw (kept.others kind.Load (λ e. absurd (omega (arith, e)))) is.loads;
   }
 
-  pub data_known : (k : Kind) (space page word : ℕ) (known : MruPages) → first_of_kind k ≡ 1 → IsKept first_of_kind k space page word old.arrays new.arrays → Knows known (alone_at 1 new.arrays) → FitsSplit of_fetches known new
+  pub data_known : (k : Kind) (space page word : ℕ) (known : MruPages) → first_of_kind k ≡ 1 → IsKept first_of_kind k space page word old new → Knows known (alone_at 1 new) → FitsSplit of_fetches known pages new
   data_known k space page word known one kept knows = record {
     split = rw specs is.split;
+    none = is.none;
     fetches = rw (kept.others kind.Fetch (λ e. absurd (omega (arith, e, one)))) is.fetches;
     loads = knows;
   }

@@ -1,5 +1,5 @@
 -- Leaves in front that stay there where one set of the first array changes.
-use Rattle.xl_tlb.proofs.Common.{Answer, Bool, FrontsStay, IsFront, IsFrontHit, IsKept, IsTouch, Kind, Leaf, List, None, Option, Some, TlbArray, TlbSpec, TlbState, [], alone_at, answer_of, ap, arith, array_filled, array_touched, covers_as, false, filled_where, find, get_or, get_or-set_other, leaf_replied, looked_arrays, mod-mod_of_dvd, refl, set_at, set_number, small_leaf, subst, sym, takes_order, tlb_looked, touched, true, where_taken, with_set, ℕ, ◌%◌, ◌/◌, ◌∙◌, ◌∷◌, ◌≡◌, ◌≢◌}
+use Rattle.xl_tlb.proofs.Common.{◌%◌, ◌/◌, ◌∙◌, ◌∷◌, ◌≡◌, ◌≢◌, [], alone_at, Answer, answer_of, ap, arith, array_filled, array_touched, Bool, covers_as, false, filled_where, find, FrontsStay, get_or, get_or-set_other, IsFront, IsFrontHit, IsKept, IsTouch, Kind, Leaf, leaf_replied, List, looked_arrays, mod-mod_of_dvd, None, Option, refl, set_at, set_number, small_leaf, Some, subst, sym, takes_order, tlb_looked, TlbArray, TlbSpec, TlbState, touched, true, where_taken, with_set, ℕ}
 use Rattle.std.proofs.lemmas.Nat.Gcd.{dvd_of_mod-eq-zero}
 use Rattle.xl_tlb.proofs.FillLemmas.{hit_set}
 use Rattle.xl_model.specs.declared.address.Order.TheVariants as order

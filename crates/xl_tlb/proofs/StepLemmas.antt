@@ -1,14 +1,11 @@
 -- A look at arrays in line, one after another, as a look at all.
-use Rattle.xl_tlb.proofs.Common.{Answer, Bool, IsAnswered, IsFill, IsKept, IsKnownAnswer, IsKnownWord, IsLooked, IsNowhere, IsPairLook, IsTouch, IsWord, Kind, Leaf, List, None, NoneBelow, Option, Purge, Reach, Some, Lookup, TlbArray, TlbState, Replied, [], answer_of, ap, arith, array_filled, array_hit, array_touched, arrays_filled, arrays_without, asked, cond, count_by, counted, false, filled_below, filled_for, fills_array, hits_at, is_purged, is_some, leaf_replied, looked_arrays, map, misses_at, nat_le, nat_lt, nat_tests, not, one_more_where, plus, reaches_leaf, refl, serves_kind, small_leaf, spec_of, sym, takes_leaf, takes_order, tlb_fenced, tlb_filled, tlb_looked, tlb_of, tlb_purged, replied, true, where_taken, ℕ, ◌&&◌, ◌+◌, ◌<◌, ◌^◌, ◌∙◌, ◌∷◌, ◌≡◌}
+use Rattle.xl_tlb.proofs.Common.{◌&&◌, ◌+◌, ◌<◌, ◌^◌, ◌∙◌, ◌∷◌, ◌≡◌, [], Answer, answer_of, ap, arith, array_filled, array_hit, array_touched, arrays_filled, arrays_without, asked, Bool, cond, count_by, counted, false, filled_below, filled_for, fills_array, hits_at, is_purged, is_some, IsFill, IsKept, IsKnownWord, IsLargeTouch, IsLooked, IsNowhere, IsPageWord, IsPairLook, IsTouch, IsWord, Kind, Leaf, leaf_replied, List, looked_arrays, Lookup, map, misses_at, nat_le, nat_lt, nat_tests, None, NoneBelow, not, one_more_where, Option, plus, Purge, Reach, reaches_leaf, refl, Replied, replied, Seen, serves_kind, small_leaf, Some, spec_of, sym, takes_leaf, takes_order, tlb_fenced, tlb_filled, tlb_looked, tlb_of, tlb_purged, TlbArray, TlbState, true, where_taken, ℕ}
 use Rattle.xl_tlb.proofs.FrontLemmas.{array_found}
 use Rattle.xl_tlb.proofs.LevelLemmas.{and_false, first_arrays, first_replied, more_arrays, more_hits, more_misses, more_replied, spec_filled, spec_touched, with_one}
 use Rattle.xl_tlb.proofs.PageLemmas.{small_says}
 use Rattle.xl_tlb.proofs.StayLemmas.{look_none as nothing_moves}
 use Rattle.xl_tlb.proofs.TlbLemmas.{count_first, filled_first, look_after, look_missed, specs_filled, specs_looked, specs_without}
 use Rattle.xl_model.specs.declared.address.Order.TheVariants as order
-use Rattle.xl_tlb.specs.declared.levels.Answered.{Answered}
-use Rattle.xl_tlb.specs.declared.levels.Answered.TheVariants as answers
-use Rattle.xl_tlb.specs.declared.pair.Seen.{Seen}
 use Rattle.xl_tlb.specs.declared.pair.Seen.TheVariants as seen
 
 -- A look at these arrays tells this, and leaves those with these counts.
@@ -203,6 +200,18 @@ seen_word first k space page word fills n arrays new hits h misses m is kept = r
   kept = kept;
 }
 
+-- a leaf of any order is found, in an array that is touched, and nothing is filled
+pub large_word : (k : Kind) (space page word fills : ℕ) (f : Replied) (arrays new : List TlbArray) (hits h misses m : List ℕ) → IsLookAt k space page (Some f) arrays new hits h misses m → f.fills ≡ 0 → IsPageWord page word f.leaf → fills < 2 ^ 64
+    → IsWord k space page word (tlb_of arrays hits misses fills) (tlb_of new h m fills)
+large_word k space page word fills f arrays new hits h misses m l none says small =
+    let same : fills ≡ plus fills f.fills = omega (arith, small, none) in
+    record {
+      leaf = f.leaf;
+      found = leaf_of_replied k (answer_of k arrays space page) arrays f l.tells;
+      says = says;
+      after = ap (λ (x : ℕ). tlb_of new h m x) same ∙ look_after k arrays new hits misses h m fills space page l.leaves l.hit l.missed f l.tells;
+    }
+
 -- what is told of a look without an answer
 pub none_of_replied : (k : Kind) (o : Option Answer) (arrays : List TlbArray) → None ≡ replied k o arrays → None ≡ leaf_replied o
 none_of_replied k None arrays e = refl
@@ -230,11 +239,6 @@ last_filled q word k s after served takes e = filled_first k q word 0 s after []
 pub word_seen : (first : Kind → ℕ) (k : Kind) (space page word : ℕ) (old new : TlbState) → IsKnownWord first k space page word old new → IsWord k space page word old new
 word_seen first k space page word old new is = record { leaf = small_leaf space page word; found = is.found; says = small_says space page word; after = is.after }
 
-pub answer_seen : (first : Kind → ℕ) (k : Kind) (space page : ℕ) (answered : Answered) (old new : TlbState) → IsKnownAnswer first k space page answered old new → IsAnswered k space page answered old new
-answer_seen first k space page (answers.Word word) old new is = word_seen first k space page word old new is
-answer_seen first k space page answers.Nowhere old new is = is
-answer_seen first k space page answers.Unknown old new is = is
-
 pub looked_specs : (k : Kind) (space page : ℕ) (old new : TlbState) → new ≡ tlb_looked k space page old → map spec_of new.arrays ≡ map spec_of old.arrays
 unfolding tlb_looked
 looked_specs k space page old new e = ap (λ (t : TlbState). map spec_of t.arrays) e ∙ specs_looked k (answer_of k old.arrays space page) space page old.arrays
@@ -255,11 +259,15 @@ fenced_specs to old new e = ap (λ (t : TlbState). map spec_of t.arrays) e ∙ s
 pub touch_spec : (space page word : ℕ) (a new : TlbArray) → IsTouch space page word a new → new.spec ≡ a.spec
 touch_spec space page word a new t = ap spec_of t.moved ∙ spec_touched space page (small_leaf space page word) a
 
+pub large_spec : (space page word : ℕ) (a new : TlbArray) → IsLargeTouch space page word a new → new.spec ≡ a.spec
+large_spec space page word a new t = ap spec_of t.moved ∙ spec_touched space page t.leaf a
+
 pub pair_specs : (saw : Seen) (space page : ℕ) (a b new after : TlbArray) → IsPairLook space page saw a b new after → (new.spec ≡ a.spec) × (after.spec ≡ b.spec)
 pair_specs (seen.First word) space page a b new after is = (touch_spec space page word a new is.0, ap spec_of is.1)
 pair_specs (seen.Second word) space page a b new after is = (ap spec_of is.0.1 ∙ spec_filled (small_leaf space page word) a, touch_spec space page word b after is.0.0.1)
+pair_specs (seen.Large word) space page a b new after is = (large_spec space page word a new is.0, ap spec_of is.1)
 pair_specs seen.Nowhere space page a b new after is = (ap spec_of is.1.0, ap spec_of is.1.1)
-pair_specs seen.Unknown space page a b new after is = (ap spec_of is.0, ap spec_of is.1)
+pair_specs seen.Unknown space page a b new after is = (ap spec_of is.1.0, ap spec_of is.1.1)
 
 pub nowhere_same : (k : Kind) (space page : ℕ) (old new : TlbState) → IsNowhere k space page old new → new.arrays ≡ old.arrays
 nowhere_same k space page old new is = ap (λ (t : TlbState). t.arrays) is.after ∙ nothing_moves k space page old is.found

@@ -3,8 +3,6 @@ use Rattle.std.specs.Prelude.{ℕ, ◌≡◌, ◌+◌, ◌-◌, ◌/◌, ◌<◌
 use Rattle.xl_model.specs.declared.address.Kind.{Kind}
 use Rattle.xl_model.specs.declared.leaf.Leaf.{Leaf}
 use Rattle.xl_model.specs.Tlb.{answer_of}
-use Rattle.xl_tlb.specs.declared.levels.Answered.{Answered}
-use Rattle.xl_tlb.specs.declared.levels.Answered.TheVariants as answered
 use Rattle.xl_model.specs.LeafWords.{perm_at}
 use Rattle.xl_tlb.specs.Tlbs.{TlbState, leaf_replied, tlb_looked}
 
@@ -29,9 +27,3 @@ pub record IsNowhere (k : Kind) (space page : ℕ) (old new : TlbState) : Type 0
 abbrev pub IsLooked : Kind → ℕ → ℕ → Option ℕ → TlbState → TlbState → Type 0
 IsLooked k space page (Some word) old new = IsWord k space page word old new
 IsLooked k space page None old new = IsNowhere k space page old new
-
--- What each answer of a look in line says; where nothing is known, nothing changes.
-abbrev pub IsAnswered : Kind → ℕ → ℕ → Answered → TlbState → TlbState → Type 0
-IsAnswered k space page (answered.Word word) old new = IsWord k space page word old new
-IsAnswered k space page answered.Nowhere old new = IsNowhere k space page old new
-IsAnswered k space page answered.Unknown old new = new ≡ old

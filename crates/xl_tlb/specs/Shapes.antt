@@ -12,9 +12,9 @@ use Rattle.xl_tlb.specs.declared.levels.Answered.TheVariants as answered
 use Rattle.xl_tlb.specs.declared.pair.Seen.{Seen}
 use Rattle.xl_tlb.specs.declared.pair.Seen.TheVariants as seen
 use Rattle.xl_tlb.specs.declared.newest.MruPages.{MruPages}
-use Rattle.xl_tlb.specs.Answers.{IsNowhere}
+use Rattle.xl_tlb.specs.Answers.{IsNowhere, IsWord}
 use Rattle.xl_tlb.specs.Arrays.{IsCommon}
-use Rattle.xl_tlb.specs.Fronts.{FrontsStay, HasEights, IsFront, IsFrontHit, IsTouch}
+use Rattle.xl_tlb.specs.Fronts.{FirstLacks, FrontsStay, HasEights, IsFront, IsFrontHit, IsLargeTouch, IsTouch, LacksSmall}
 use Rattle.xl_tlb.specs.Known.{Knows}
 use Rattle.xl_tlb.specs.Tlbs.{TlbState, spec_of, leaf_replied, tlb_filled, tlb_looked}
 
@@ -87,8 +87,9 @@ abbrev pub IsPairLook : ℕ → ℕ → Seen → TlbArray → TlbArray → TlbAr
 IsPairLook space page (seen.First word) a b new after = IsTouch space page word a new × (after ≡ b)
 IsPairLook space page (seen.Second word) a b new after =
     (((None ≡ array_hit a space page) × IsTouch space page word b after) × (new ≡ array_filled (small_leaf space page word) a)) × IsFrontHit space page word new
+IsPairLook space page (seen.Large word) a b new after = IsLargeTouch space page word a new × (after ≡ b)
 IsPairLook space page seen.Nowhere a b new after = ((None ≡ array_hit a space page) × (None ≡ array_hit b space page)) × ((new ≡ a) × (after ≡ b))
-IsPairLook space page seen.Unknown a b new after = (new ≡ a) × (after ≡ b)
+IsPairLook space page seen.Unknown a b new after = LacksSmall space page a × ((new ≡ a) × (after ≡ b))
 
 -- Both arrays are filled with the leaf of 4 KiB with this word, which is the newest of its set of the first then.
 pub record IsPairFill (space page word : ℕ) (a b new after : TlbArray) : Type 0 where
@@ -109,8 +110,9 @@ pub data AtBoth (P : TlbArray → TlbArray → TlbArray → TlbArray → Type 0)
 -- What a look in one array tells, and what it leaves of it.
 abbrev pub IsAloneLook : ℕ → ℕ → Answered → TlbArray → TlbArray → Type 0
 IsAloneLook space page (answered.Word word) a new = IsTouch space page word a new
+IsAloneLook space page (answered.Large word) a new = IsLargeTouch space page word a new
 IsAloneLook space page answered.Nowhere a new = (None ≡ array_hit a space page) × (new ≡ a)
-IsAloneLook space page answered.Unknown a new = new ≡ a
+IsAloneLook space page answered.Unknown a new = LacksSmall space page a × (new ≡ a)
 
 -- One array is filled with the leaf of 4 KiB with this word, which is the newest of its set then.
 pub record IsAloneFill (space page word : ℕ) (a new : TlbArray) : Type 0 where
@@ -133,11 +135,19 @@ pub record IsKnownWord (first : Kind → ℕ) (k : Kind) (space page word : ℕ)
   pub after : new ≡ tlb_looked k space page old
   pub kept : IsKept first k space page word old.arrays new.arrays
 
--- What each answer of a look in line says; where nothing is known, nothing changes.
+-- What each answer of a look in line says; where a larger leaf may answer, nothing changes.
 abbrev pub IsKnownAnswer : (Kind → ℕ) → Kind → ℕ → ℕ → Answered → TlbState → TlbState → Type 0
 IsKnownAnswer first k space page (answered.Word word) old new = IsKnownWord first k space page word old new
+IsKnownAnswer first k space page (answered.Large word) old new = IsWord k space page word old new
 IsKnownAnswer first k space page answered.Nowhere old new = IsNowhere k space page old new
-IsKnownAnswer first k space page answered.Unknown old new = new ≡ old
+IsKnownAnswer first k space page answered.Unknown old new = FirstLacks space page (alone_at (first k) old.arrays) × (new ≡ old)
+
+-- The same, where what is found is kept.
+abbrev pub IsAnswered : (Kind → ℕ) → Kind → ℕ → ℕ → Answered → TlbState → TlbState → Type 0
+IsAnswered first k space page (answered.Word word) old new = IsWord k space page word old new
+IsAnswered first k space page (answered.Large word) old new = IsWord k space page word old new
+IsAnswered first k space page answered.Nowhere old new = IsNowhere k space page old new
+IsAnswered first k space page answered.Unknown old new = FirstLacks space page (alone_at (first k) old.arrays) × (new ≡ old)
 
 -- The arrays that serve an access of this kind are filled with a leaf of 4 KiB, which may be kept.
 pub record IsKnownFill (first : Kind → ℕ) (k : Kind) (space page word : ℕ) (old new : TlbState) : Type 0 where
@@ -145,18 +155,19 @@ pub record IsKnownFill (first : Kind → ℕ) (k : Kind) (space page word : ℕ)
   pub kept : IsKept first k space page word old.arrays new.arrays
 
 -- What is always so of one array.
-pub record FitsOne (newest : MruPages) (eights : Bool) (t : TlbState) : Type 0 where
-  pub one : IsOne (map spec_of t.arrays)
-  pub by_eight : eights ≡ true → HasEights t.arrays
-  pub knows : Knows newest (alone_at 0 t.arrays)
+pub record FitsOne (eights : Bool) (pages : MruPages) (arrays : List TlbArray) : Type 0 where
+  pub one : IsOne (map spec_of arrays)
+  pub by_eight : eights ≡ true → HasEights arrays
+  pub knows : Knows pages (alone_at 0 arrays)
 
 -- What is always so of a first array and a second one.
-pub record FitsJoint (newest : MruPages) (t : TlbState) : Type 0 where
-  pub joint : AreJoint (map spec_of t.arrays)
-  pub knows : Knows newest (alone_at 0 t.arrays)
+pub record FitsJoint (pages : MruPages) (arrays : List TlbArray) : Type 0 where
+  pub joint : AreJoint (map spec_of arrays)
+  pub knows : Knows pages (alone_at 0 arrays)
 
 -- What is always so of arrays for fetches and for data over one for all.
-pub record FitsSplit (of_fetches of_data : MruPages) (t : TlbState) : Type 0 where
-  pub split : AreSplit (map spec_of t.arrays)
-  pub fetches : Knows of_fetches (alone_at 0 t.arrays)
-  pub loads : Knows of_data (alone_at 1 t.arrays)
+pub record FitsSplit (of_fetches of_data pages : MruPages) (arrays : List TlbArray) : Type 0 where
+  pub split : AreSplit (map spec_of arrays)
+  pub none : Knows pages []
+  pub fetches : Knows of_fetches (alone_at 0 arrays)
+  pub loads : Knows of_data (alone_at 1 arrays)

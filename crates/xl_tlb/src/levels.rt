@@ -6,7 +6,7 @@ ghost use Rattle.xl_model.specs.declared.leaf.Leaf.{Leaf};
 ghost use Rattle.xl_model.specs.Tlb.{leaf_count, array_without, is_purged, reaches_leaf};
 ghost use Rattle.xl_tlb.specs.Arrays.{IsFit, InLimits};
 ghost use Rattle.xl_tlb.specs.Answers.{IsLooked};
-ghost use Rattle.xl_tlb.specs.Counted.{answered_as, seen_in};
+ghost use Rattle.xl_tlb.specs.Counted.{IsState, answered_as, hit_at, seen_in};
 ghost use Rattle.xl_tlb.specs.Hits.{leaf_hit};
 ghost use Rattle.xl_tlb.specs.Tlbs.{spec_of, tlb_opening, AreSpecs, IsRising, tlb_looked, tlb_filled, tlb_purged, tlb_fenced};
 
@@ -20,10 +20,12 @@ use std::alloc::Global;
 use std::marker::Model;
 use xl_model::{Kind, Leaf, NoMemory, Purge, Reach, TlbSpec};
 
-/// The leaf's word; or a miss of all arrays; or unknown: fast path not taken, state unchanged.
+/// The leaf's word; or the word of the page of a larger leaf; or a miss of all arrays; or unknown:
+/// fast path not taken, state unchanged.
 #[derive(Clone, Copy)]
 pub(crate) enum Answered {
     Word { word: u64 },
+    Large { word: u64 },
     Nowhere,
     Unknown,
 }
@@ -119,6 +121,10 @@ impl Levels {
                 self.fills = self.fills.wrapping_add(1);
                 Answered::Word { word }
             }
+            Seen::Large { word } => {
+                self.hits[first] = self.hits[first].wrapping_add(1);
+                Answered::Large { word }
+            }
             Seen::Nowhere => {
                 self.misses[first] = self.misses[first].wrapping_add(1);
                 self.misses[second] = self.misses[second].wrapping_add(1);
@@ -126,6 +132,16 @@ impl Levels {
             }
             Seen::Unknown => Answered::Unknown,
         }
+    }
+
+    /// Counts a hit of the array with this number that changes nothing else.
+    #[inline(always)]
+    pub fn hit(&mut self, first: usize)
+        requires { first < 6 }
+        ensures counts { self.new ≡ hit_at first self.old }
+        ensures state { IsState self.old }
+    {
+        self.hits[first] = self.hits[first].wrapping_add(1);
     }
 
     /// Looks for the page in all levels in turn: its word. Touches the array that hits, and fills

@@ -1,32 +1,30 @@
 //! One array that serves all accesses, of any width.
 //!
-//! A look asks the pages that are known of the array, then the array. Where a leaf above 4 KiB may
-//! answer, it looks in turn. Where the sets aren't a multiple of eight, one page is known at most.
+//! Taken where it takes leaves of 4 KiB. It is looked at in line, by its width: saves the look in
+//! turn.
 
-ghost use Rattle.std.specs.Prelude.{ℕ, ◌≡◌, true, map};
+ghost use Rattle.std.specs.Prelude.{◌≡◌, true, map};
 ghost use Rattle.xl_model.specs.declared.address.Kind.{Kind as KindOf};
 ghost use Rattle.xl_model.specs.declared.address.Order.TheVariants as order_of;
 ghost use Rattle.xl_model.specs.Tlb.{takes_order};
-ghost use Rattle.xl_tlb.specs.Answers.{IsWord};
-ghost use Rattle.xl_tlb.specs.Fronts.{HasEights, IsFront};
+ghost use Rattle.xl_tlb.specs.Fronts.{FirstLacks, HasEights, LacksSmall};
 ghost use Rattle.xl_tlb.specs.Shapes.{AtOne, FitsOne, IsAloneFill, IsAloneLook, IsKnownAnswer, IsKnownFill, IsOne, all_first, alone_at};
 ghost use Rattle.xl_tlb.specs.Lookup.{IsLookup};
-ghost use Rattle.xl_tlb.specs.Tlbs.{TlbState, spec_of};
+ghost use Rattle.xl_tlb.specs.Tlbs.{spec_of};
 
 use crate::any::AnyArray;
 use crate::levels::{Answered, Levels};
 use crate::lookup::Lookup;
 use crate::newest::MruPages;
 use crate::pair::first_and_rest;
-use crate::shape::Shape;
+use crate::shape::{Known, Shape};
 use xl_model::{Kind, Order};
 
-/// Which pages the newest leaves of the array answered of late, and whether its sets are a multiple
-/// of eight.
+/// Whether the sets of the one array are a multiple of eight. Where they aren't, one page is known
+/// at most.
 #[derive(Drop)]
 pub(crate) struct One {
-    newest: MruPages,
-    eights: bool,
+    pub eights: bool,
 }
 
 /// Whether this is one such array.
@@ -49,13 +47,21 @@ pub(crate) fn has_eights(arrays: &[AnyArray]) -> bool
     first.has_eights()
 }
 
-/// Looks for the leaf of 4 KiB that is sought in an array.
+/// Looks for the leaf of 4 KiB that is sought in an array; with `above`, where it lacks that, for a
+/// larger one of the page.
 #[inline(always)]
-fn look_first(first: &mut AnyArray, lookup: Lookup) -> Answered
+fn look_first(first: &mut AnyArray, above: bool, lookup: Lookup) -> Answered
     requires lookup { IsLookup order_of.K4 lookup }
     requires takes { takes_order first.old.spec order_of.K4 ≡ true }
+    requires lacks { above ≡ true → LacksSmall lookup.space lookup.page first.old }
     ensures { IsAloneLook lookup.space lookup.page result first.old first.new }
 {
+    if above {
+        return match first.touch_large(false, lookup.space, lookup.page) {
+            Some(word) => Answered::Large { word },
+            None => Answered::Nowhere,
+        };
+    }
     let set = first.set_of(lookup);
     if let Some(word) = first.touch_in(set, lookup, Order::K4) {
         return Answered::Word { word };
@@ -68,13 +74,14 @@ fn look_first(first: &mut AnyArray, lookup: Lookup) -> Answered
 
 /// Like `look_first`, with the one array.
 #[inline(always)]
-fn look_alone(arrays: &mut [AnyArray], lookup: Lookup) -> Answered
+fn look_alone(arrays: &mut [AnyArray], above: bool, lookup: Lookup) -> Answered
     requires lookup { IsLookup order_of.K4 lookup }
     requires one { IsOne (map spec_of arrays.old) }
+    requires lacks { above ≡ true → FirstLacks lookup.space lookup.page (alone_at 0 arrays.old) }
     ensures { AtOne (IsAloneLook lookup.space lookup.page result) arrays.old arrays.new }
 {
     let (first, _none) = first_and_rest(arrays);
-    look_first(first, lookup)
+    look_first(first, above, lookup)
 }
 
 /// Fills the array with the leaf of 4 KiB that is sought.
@@ -90,31 +97,25 @@ fn fill_alone(arrays: &mut [AnyArray], lookup: Lookup, word: u64)
 }
 
 impl Levels {
-    /// Counts a hit of the newest leaf of a set of the array.
-    #[inline(always)]
-    fn hit_one(&mut self)
-        requires { IsOne (map spec_of self.old.arrays) }
-        ensures looked { (k : KindOf) (space page word : ℕ)
-            → IsFront space page word (alone_at (all_first k) self.old.arrays)
-            → IsWord k space page word self.old self.new }
-        ensures stays { self.new.arrays ≡ self.old.arrays }
-    {
-        self.hits[0] = self.hits[0].wrapping_add(1);
-    }
-
     /// Looks in the array for the leaf of 4 KiB that is sought, and gives its word: it is the
-    /// newest of its set then. Unknown where a larger leaf may answer; then nothing changes.
+    /// newest of its set then.
     #[inline(always)]
-    fn look_one(&mut self, lookup: Lookup) -> Answered
+    fn look_one(&mut self, above: bool, lookup: Lookup) -> Answered
         requires lookup { IsLookup order_of.K4 lookup }
         requires one { IsOne (map spec_of self.old.arrays) }
+        requires lacks { above ≡ true
+            → FirstLacks lookup.space lookup.page (alone_at 0 self.old.arrays) }
         ensures { (k : KindOf) →
             IsKnownAnswer all_first k lookup.space lookup.page result self.old self.new }
     {
-        match look_alone(&mut self.arrays, lookup) {
+        match look_alone(&mut self.arrays, above, lookup) {
             Answered::Word { word } => {
                 self.hits[0] = self.hits[0].wrapping_add(1);
                 Answered::Word { word }
+            }
+            Answered::Large { word } => {
+                self.hits[0] = self.hits[0].wrapping_add(1);
+                Answered::Large { word }
             }
             Answered::Nowhere => {
                 self.misses[0] = self.misses[0].wrapping_add(1);
@@ -137,59 +138,27 @@ impl Levels {
     }
 }
 
-impl One {
-    /// No page is known. `eights`: whether the array's sets are a multiple of eight.
-    pub fn new(eights: bool) -> One
-        ensures { (t : TlbState) → IsOne (map spec_of t.arrays)
-            → (eights ≡ true → HasEights t.arrays) → FitsOne result.newest result.eights t }
-    {
-        One {
-            newest: MruPages::none(),
-            eights,
-        }
-    }
-}
-
 impl Shape for One {
-    ghost fits = { λ o t. FitsOne o.newest o.eights t };
+    ghost first = { all_first };
+    ghost fits = { λ o pages arrays. FitsOne o.eights pages arrays };
 
     #[inline(always)]
-    fn recall(&self, levels: &mut Levels, _kind: Kind, lookup: Lookup) -> Option<u64> {
-        let Some(word) = self.newest.word(lookup) else {
-            return None;
-        };
-        levels.hit_one();
-        Some(word)
+    fn look_in(&self, known: &mut Known, _kind: Kind, above: bool, lookup: Lookup) -> Answered {
+        known.levels.look_one(above, lookup)
     }
 
-    #[inline(never)]
-    fn probe(
-        &mut self,
-        levels: &mut Levels,
-        _kind: Kind,
-        space: u16,
-        page: u64,
-        tag: u64,
-    ) -> Answered {
-        let lookup = Lookup { space, page, tag };
-        match levels.look_one(lookup) {
-            Answered::Word { word } => {
-                self.newest.renew(self.eights, lookup, word);
-                Answered::Word { word }
-            }
-            Answered::Nowhere => Answered::Nowhere,
-            Answered::Unknown => Answered::Unknown,
-        }
+    #[inline(always)]
+    fn fill_in(&self, known: &mut Known, _kind: Kind, lookup: Lookup, word: u64) {
+        known.levels.fill_one(lookup, word);
     }
 
-    #[inline(never)]
-    fn fill_small(&mut self, levels: &mut Levels, _kind: Kind, space: u16, page: u64, word: u64) {
-        let lookup = Lookup::of(space, page, Order::K4);
-        levels.fill_one(lookup, word);
-        self.newest.renew(self.eights, lookup, word);
+    #[inline(always)]
+    fn keep(&mut self, pages: &mut MruPages, _kind: Kind, lookup: Lookup, word: u64) {
+        pages.renew(self.eights, lookup, word);
     }
 
-    fn forget(&mut self) {
-        self.newest.forget();
+    #[inline(always)]
+    fn forget(&mut self, pages: &mut MruPages) {
+        pages.forget();
     }
 }

@@ -1,22 +1,27 @@
 //! A look and a fill of two common arrays, a first one and a second one of a higher level.
 
-ghost use Rattle.std.specs.Prelude.{◌≡◌, ◌<◌, length};
+ghost use Rattle.std.specs.Prelude.{◌≡◌, ◌<◌, length, true, None};
 ghost use Rattle.std.specs.Borrow.{sem, Array, LendsBoth};
 ghost use Rattle.std.specs.Prelude.{◌∷◌};
 ghost use Rattle.std.specs.List.{IsFirstAndRest};
 ghost use Rattle.xl_model.specs.declared.address.Order.TheVariants as order_of;
-ghost use Rattle.xl_tlb.specs.Lookup.{IsLookup};
+ghost use Rattle.xl_model.specs.Tlb.{array_hit};
+ghost use Rattle.xl_tlb.specs.Fronts.{LacksSmall};
+ghost use Rattle.xl_tlb.specs.Lookup.{IsAt, IsLookup};
 ghost use Rattle.xl_tlb.specs.Shapes.{IsOfPair, IsPairLook, IsPairFill};
 
 use crate::any::AnyArray;
 use crate::lookup::Lookup;
+use xl_model::Order;
 
-/// What a look for a leaf of 4 KiB in two arrays saw: the leaf's word, and which array hits; or
-/// that none does; or that a larger leaf may hit, and then nothing changed.
+/// What a look for a leaf of 4 KiB in two arrays saw: the leaf's word, and which array hits; or the
+/// word of the page of a larger leaf, which the first one hits; or that none does; or that a larger
+/// leaf of the second may hit, and then nothing changed.
 #[derive(Clone, Copy)]
 pub(crate) enum Seen {
     First { word: u64 },
     Second { word: u64 },
+    Large { word: u64 },
     Nowhere,
     Unknown,
 }
@@ -33,25 +38,23 @@ pub(crate) fn first_and_rest<T>(items: &mut [T]) -> (&mut T, &mut [T])
     (&mut front[0], rest)
 }
 
-/// Looks for the leaf of 4 KiB that is sought in both arrays, and touches the first one that has
-/// it. Where that is the second, the first is filled. Unknown where a larger leaf may answer; then
-/// nothing changes.
+/// Looks for the leaf of 4 KiB that is sought in the second array, where the first one misses its
+/// page, which is filled then. Unknown where a larger leaf may answer; then nothing changes.
 #[inline(always)]
-pub(crate) fn look_pair(first: &mut AnyArray, second: &mut AnyArray, lookup: Lookup) -> Seen
-    requires lookup { IsLookup order_of.K4 lookup }
+fn look_second(
+    first: &mut AnyArray,
+    set: usize,
+    second: &mut AnyArray,
+    lookup: Lookup,
+) -> Seen
+    requires at { IsAt order_of.K4 set lookup first.old.spec }
+    requires missed { None ≡ array_hit first.old lookup.space lookup.page }
     requires first { IsOfPair first.old.spec }
     requires second { IsOfPair second.old.spec }
     ensures { IsPairLook lookup.space lookup.page result first.old second.old first.new second.new }
 {
-    let set = first.common_set_of(lookup);
-    if let Some(word) = first.touch_common(set, lookup) {
-        return Seen::First { word };
-    }
-    if first.has_large() {
-        return Seen::Unknown;
-    }
     let place = second.common_set_of(lookup);
-    let Some(word) = second.touch_common(place, lookup) else {
+    let Some(word) = second.touch_common(place, lookup, Order::K4) else {
         if second.has_large() {
             return Seen::Unknown;
         }
@@ -59,6 +62,38 @@ pub(crate) fn look_pair(first: &mut AnyArray, second: &mut AnyArray, lookup: Loo
     };
     first.fill_common(set, lookup, word);
     Seen::Second { word }
+}
+
+/// Looks for the leaf of 4 KiB that is sought in both arrays, and touches the first one that has
+/// it. Where that is the second, the first is filled. Unknown where a larger leaf may answer; then
+/// nothing changes. With `above` the first one lacks the leaf, and is asked for larger ones.
+#[inline(always)]
+pub(crate) fn look_pair(
+    first: &mut AnyArray,
+    second: &mut AnyArray,
+    above: bool,
+    lookup: Lookup,
+) -> Seen
+    requires lookup { IsLookup order_of.K4 lookup }
+    requires first { IsOfPair first.old.spec }
+    requires second { IsOfPair second.old.spec }
+    requires lacks { above ≡ true → LacksSmall lookup.space lookup.page first.old }
+    ensures { IsPairLook lookup.space lookup.page result first.old second.old first.new second.new }
+{
+    let set = first.common_set_of(lookup);
+    if above {
+        return match first.touch_large(true, lookup.space, lookup.page) {
+            Some(word) => Seen::Large { word },
+            None => look_second(first, set, second, lookup),
+        };
+    }
+    if let Some(word) = first.touch_common(set, lookup, Order::K4) {
+        return Seen::First { word };
+    }
+    if first.has_large() {
+        return Seen::Unknown;
+    }
+    look_second(first, set, second, lookup)
 }
 
 /// Fills both arrays with the leaf of 4 KiB that is sought.

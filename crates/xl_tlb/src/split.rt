@@ -1,23 +1,27 @@
-//! Fetches and data have a first array each, over one for both; all three are common arrays.
+//! Fetches and data have a first array each, over one for both.
 //!
-//! A look asks the pages that are known of the first array of its kind, then that array and the
-//! second one, in line. Where a leaf above 4 KiB may answer, it looks in turn.
+//! Taken where all three are common arrays, and the sets of the first ones a multiple of eight. The
+//! pages that are known of the first array of the access's kind, that array and the second one are
+//! looked at in line: saves the look in turn.
 
-ghost use Rattle.std.specs.Prelude.{ℕ, ◌≡◌, true, map, IfSome};
+ghost use Rattle.std.specs.Prelude.{◌≡◌, true, List, [], map, IfSome};
+ghost use Rattle.xl_model.specs.Tlb.{TlbArray};
 ghost use Rattle.xl_model.specs.declared.address.Order.TheVariants as order_of;
-ghost use Rattle.xl_tlb.specs.Answers.{IsWord};
-ghost use Rattle.xl_tlb.specs.Fronts.{IsFront};
-ghost use Rattle.xl_tlb.specs.Shapes.{AreSplit, AtKind, FitsSplit, IsKept, IsKnownAnswer, IsKnownFill, IsPairFill, IsPairLook, alone_at, first_of_kind};
+ghost use Rattle.xl_tlb.specs.Answers.{IsLooked};
+ghost use Rattle.xl_tlb.specs.declared.newest.MruPages.{MruPages as PagesOf};
+ghost use Rattle.xl_tlb.specs.Fronts.{FirstLacks, IsFront};
+ghost use Rattle.xl_tlb.specs.Known.{Knows};
+ghost use Rattle.xl_tlb.specs.Shapes.{AreSplit, AtKind, FitsSplit, IsKnownAnswer, IsKnownFill, IsPairFill, IsPairLook, alone_at, first_of_kind};
 ghost use Rattle.xl_tlb.specs.Lookup.{IsLookup};
-ghost use Rattle.xl_tlb.specs.Tlbs.{TlbState, spec_of};
+ghost use Rattle.xl_tlb.specs.Tlbs.{spec_of};
 
 use crate::any::AnyArray;
 use crate::levels::{Answered, Levels};
 use crate::lookup::Lookup;
 use crate::newest::MruPages;
 use crate::pair::{Seen, fill_pair, first_and_rest, look_pair};
-use crate::shape::Shape;
-use xl_model::{Kind, Order};
+use crate::shape::{Known, Shape, search};
+use xl_model::Kind;
 
 /// Of each first array, which pages its newest leaves answered of late.
 #[derive(Drop)]
@@ -53,14 +57,16 @@ fn first_of(kind: Kind) -> usize
 
 /// Like `look_pair`, with the two arrays that serve an access of this kind.
 #[inline(always)]
-fn look_split(arrays: &mut [AnyArray], kind: Kind, lookup: Lookup) -> Seen
+fn look_split(arrays: &mut [AnyArray], kind: Kind, above: bool, lookup: Lookup) -> Seen
     requires lookup { IsLookup order_of.K4 lookup }
     requires split { AreSplit (map spec_of arrays.old) }
+    requires lacks { above ≡ true → FirstLacks lookup.space lookup.page
+        (alone_at (first_of_kind kind) arrays.old) }
     ensures { AtKind (IsPairLook lookup.space lookup.page result) kind arrays.old arrays.new }
 {
     let (firsts, rest) = arrays.split_at_mut(2);
     let (second, _none) = first_and_rest(rest);
-    look_pair(&mut firsts[first_of(kind)], second, lookup)
+    look_pair(&mut firsts[first_of(kind)], second, above, lookup)
 }
 
 /// Like `fill_pair`, with the two arrays that serve an access of this kind.
@@ -76,29 +82,18 @@ fn fill_split(arrays: &mut [AnyArray], kind: Kind, lookup: Lookup, word: u64)
 }
 
 impl Levels {
-    /// Counts a hit of the newest leaf of a set of the first array of accesses of this kind.
-    #[inline(always)]
-    fn hit_split(&mut self, kind: Kind)
-        requires { AreSplit (map spec_of self.old.arrays) }
-        ensures looked { (space page word : ℕ)
-            → IsFront space page word (alone_at (first_of_kind kind) self.old.arrays)
-            → IsWord kind space page word self.old self.new }
-        ensures stays { self.new.arrays ≡ self.old.arrays }
-    {
-        let first = first_of(kind);
-        self.hits[first] = self.hits[first].wrapping_add(1);
-    }
-
     /// Looks for the leaf of 4 KiB that is sought in the arrays that serve accesses of this kind,
     /// and gives its word: it is the newest of its set of the first array then. Unknown where a
     /// larger leaf may answer; then nothing changes.
     #[inline(always)]
-    fn look_split(&mut self, kind: Kind, lookup: Lookup) -> Answered
+    fn look_split(&mut self, kind: Kind, above: bool, lookup: Lookup) -> Answered
         requires lookup { IsLookup order_of.K4 lookup }
         requires split { AreSplit (map spec_of self.old.arrays) }
+        requires lacks { above ≡ true → FirstLacks lookup.space lookup.page
+            (alone_at (first_of_kind kind) self.old.arrays) }
         ensures { IsKnownAnswer first_of_kind kind lookup.space lookup.page result self.old self.new }
     {
-        let seen = look_split(&mut self.arrays, kind, lookup);
+        let seen = look_split(&mut self.arrays, kind, above, lookup);
         self.count(first_of(kind), 2, seen)
     }
 
@@ -117,8 +112,8 @@ impl Levels {
 impl Split {
     /// No page is known.
     pub fn new() -> Split
-        ensures { (t : TlbState) → AreSplit (map spec_of t.arrays)
-            → FitsSplit result.of_fetches result.of_data t }
+        ensures { (pages : PagesOf) (arrays : List TlbArray) → AreSplit (map spec_of arrays)
+            → Knows pages [] → FitsSplit result.of_fetches result.of_data pages arrays }
     {
         Split {
             of_fetches: MruPages::none(),
@@ -128,11 +123,12 @@ impl Split {
 
     /// The word of a page that is known of the first array of this kind.
     #[inline(always)]
-    fn known(&self, kind: Kind, lookup: Lookup) -> Option<u64>
+    fn word(&self, kind: Kind, lookup: Lookup) -> Option<u64>
         requires { IsLookup order_of.K4 lookup }
-        ensures { (t : TlbState) → FitsSplit self.now.of_fetches self.now.of_data t
+        ensures { (pages : PagesOf) (arrays : List TlbArray)
+            → FitsSplit self.now.of_fetches self.now.of_data pages arrays
             → IfSome result (λ word. IsFront lookup.space lookup.page word
-            (alone_at (first_of_kind kind) t.arrays)) }
+            (alone_at (first_of_kind kind) arrays)) }
     {
         match kind {
             Kind::Fetch => self.of_fetches.word(lookup),
@@ -140,62 +136,49 @@ impl Split {
         }
     }
 
-    /// Keeps the word of a page that is the newest of its set of the first array of this kind.
+    /// Looks for the page whose leaf of 4 KiB is sought, and gives its word, as `look` of `Tlb`
+    /// does.
     #[inline(always)]
-    fn keep(&mut self, kind: Kind, lookup: Lookup, word: u64)
-        requires { IsLookup order_of.K4 lookup }
-        ensures { (old new : TlbState) → FitsSplit self.old.of_fetches self.old.of_data old
-            → map spec_of new.arrays ≡ map spec_of old.arrays
-            → IsKept first_of_kind kind lookup.space lookup.page word old.arrays new.arrays
-            → FitsSplit self.new.of_fetches self.new.of_data new }
+    pub fn look(&mut self, known: &mut Known, kind: Kind, lookup: Lookup) -> Option<u64>
+        requires lookup { IsLookup order_of.K4 lookup }
+        requires fits { FitsSplit self.old.of_fetches self.old.of_data known.old.pages
+            known.old.levels.arrays }
+        ensures looked { IsLooked kind lookup.space lookup.page result
+            known.old.levels known.new.levels }
+        ensures fits { FitsSplit self.new.of_fetches self.new.of_data known.new.pages
+            known.new.levels.arrays }
     {
+        if let Some(word) = self.word(kind, lookup) {
+            known.levels.hit(first_of(kind));
+            return Some(word);
+        }
+        search(self, known, kind, lookup.space, lookup.page, lookup.tag)
+    }
+}
+
+impl Shape for Split {
+    ghost first = { first_of_kind };
+    ghost fits = { λ s pages arrays. FitsSplit s.of_fetches s.of_data pages arrays };
+
+    #[inline(always)]
+    fn look_in(&self, known: &mut Known, kind: Kind, above: bool, lookup: Lookup) -> Answered {
+        known.levels.look_split(kind, above, lookup)
+    }
+
+    #[inline(always)]
+    fn fill_in(&self, known: &mut Known, kind: Kind, lookup: Lookup, word: u64) {
+        known.levels.fill_split(kind, lookup, word);
+    }
+
+    #[inline(always)]
+    fn keep(&mut self, _pages: &mut MruPages, kind: Kind, lookup: Lookup, word: u64) {
         match kind {
             Kind::Fetch => self.of_fetches.renew(true, lookup, word),
             Kind::Load | Kind::Store => self.of_data.renew(true, lookup, word),
         }
     }
-}
 
-impl Shape for Split {
-    ghost fits = { λ s t. FitsSplit s.of_fetches s.of_data t };
-
-    #[inline(always)]
-    fn recall(&self, levels: &mut Levels, kind: Kind, lookup: Lookup) -> Option<u64> {
-        let Some(word) = self.known(kind, lookup) else {
-            return None;
-        };
-        levels.hit_split(kind);
-        Some(word)
-    }
-
-    #[inline(never)]
-    fn probe(
-        &mut self,
-        levels: &mut Levels,
-        kind: Kind,
-        space: u16,
-        page: u64,
-        tag: u64,
-    ) -> Answered {
-        let lookup = Lookup { space, page, tag };
-        match levels.look_split(kind, lookup) {
-            Answered::Word { word } => {
-                self.keep(kind, lookup, word);
-                Answered::Word { word }
-            }
-            Answered::Nowhere => Answered::Nowhere,
-            Answered::Unknown => Answered::Unknown,
-        }
-    }
-
-    #[inline(never)]
-    fn fill_small(&mut self, levels: &mut Levels, kind: Kind, space: u16, page: u64, word: u64) {
-        let lookup = Lookup::of(space, page, Order::K4);
-        levels.fill_split(kind, lookup, word);
-        self.keep(kind, lookup, word);
-    }
-
-    fn forget(&mut self) {
+    fn forget(&mut self, _pages: &mut MruPages) {
         self.of_fetches.forget();
         self.of_data.forget();
     }

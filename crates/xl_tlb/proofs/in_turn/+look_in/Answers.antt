@@ -1,4 +1,4 @@
-use Rattle.xl_tlb.proofs.Common.{◌∷◌, ap, arith, IsRising, leaf_hit, length, map, spec_of, replied_of}
+use Rattle.xl_tlb.proofs.Common.{◌∷◌, ap, arith, IsRising, leaf_hit, length, map, replied_of, spec_of}
 use Rattle.xl_tlb.proofs.FoundLemmas.{found_replied}
 use Rattle.xl_tlb.proofs.LevelLemmas.{first_arrays, first_replied, hits_joined, misses_joined, more_arrays}
 use Rattle.xl_tlb.proofs.in_turn.+look_in.Goals as goal

@@ -1,4 +1,4 @@
-use Rattle.xl_tlb.proofs.Common.{◌++◌, ◌∙◌, ◌≡◌, ap, IsOne, AtOne, drop, IsAloneFill, length, map, small_leaf, spec_of, sym, take}
+use Rattle.xl_tlb.proofs.Common.{◌++◌, ◌∙◌, ◌≡◌, ap, AtOne, drop, IsAloneFill, IsOne, length, map, small_leaf, spec_of, sym, take}
 use Rattle.xl_tlb.proofs.OneLemmas.{one_filled}
 use Rattle.xl_tlb.proofs.TlbLemmas.{fill_after, fill_kept, written}
 use Rattle.xl_model.specs.declared.address.Kind.TheVariants as kind
