@@ -38,7 +38,7 @@ unfoldable pub use Rattle.xl_tlb.specs.Coding.{leaf_of, tag_of}
 pub use Rattle.xl_tlb.specs.Counted.{answered_as, hit_at, IsState, one_more_at, seen_in}
 pub use Rattle.xl_tlb.specs.Equal.{is_equal, keeps_leaf}
 pub use Rattle.xl_tlb.specs.Founds.{found_leaf, replied_of}
-pub use Rattle.xl_tlb.specs.Fronts.{FirstLacks, FrontsStay, HasEights, IsFront, IsFrontHit, IsLargeTouch, IsTouch}
+pub use Rattle.xl_tlb.specs.Fronts.{FirstLacks, FrontsStay, HasEights, IsFront, IsFrontHit, IsLargeTouch, IsTouch, LacksSmall}
 pub use Rattle.xl_tlb.specs.Held.{Counts, IsKnown, IsSmall}
 pub use Rattle.xl_tlb.specs.Hits.{hit_touched, leaf_hit, word_touched}
 pub use Rattle.xl_tlb.specs.Known.{IsKey, Knows, no_key}

@@ -93,6 +93,7 @@ impl Levels {
 
 impl Shape for Joint {
     ghost first = { all_first };
+
     ghost fits = { λ j pages arrays. FitsJoint pages arrays };
 
     #[inline(always)]

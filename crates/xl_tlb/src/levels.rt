@@ -232,31 +232,6 @@ impl Levels {
         self.misses
     }
 
-    /// How many arrays there are, at most six.
-    pub fn arrays(&self) -> usize
-        ensures { result ≡ length self.now.arrays }
-    {
-        self.arrays.len()
-    }
-
-    /// How many looks hit in array `i`, counted from 0 in the order of the specs, modulo 2^64.
-    pub fn hits(&self, i: usize) -> u64
-        requires { i < length self.now.arrays }
-        ensures { result ≡ slice_index_or self.now.hits i 0 }
-    {
-        let hits = &self.hits;
-        hits[i]
-    }
-
-    /// How many looks missed in array `i`, counted from 0 in the order of the specs, modulo 2^64.
-    pub fn misses(&self, i: usize) -> u64
-        requires { i < length self.now.arrays }
-        ensures { result ≡ slice_index_or self.now.misses i 0 }
-    {
-        let misses = &self.misses;
-        misses[i]
-    }
-
     /// How many leaves were put into arrays, modulo 2^64.
     pub fn fills(&self) -> u64
         ensures { result ≡ self.now.fills }

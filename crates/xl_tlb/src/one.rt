@@ -140,6 +140,7 @@ impl Levels {
 
 impl Shape for One {
     ghost first = { all_first };
+
     ghost fits = { λ o pages arrays. FitsOne o.eights pages arrays };
 
     #[inline(always)]

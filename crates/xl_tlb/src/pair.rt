@@ -41,13 +41,9 @@ pub(crate) fn first_and_rest<T>(items: &mut [T]) -> (&mut T, &mut [T])
 /// Looks for the leaf of 4 KiB that is sought in the second array, where the first one misses its
 /// page, which is filled then. Unknown where a larger leaf may answer; then nothing changes.
 #[inline(always)]
-fn look_second(
-    first: &mut AnyArray,
-    set: usize,
-    second: &mut AnyArray,
-    lookup: Lookup,
-) -> Seen
+fn look_second(first: &mut AnyArray, set: usize, second: &mut AnyArray, lookup: Lookup) -> Seen
     requires at { IsAt order_of.K4 set lookup first.old.spec }
+    requires lacks { LacksSmall lookup.space lookup.page first.old }
     requires missed { None ≡ array_hit first.old lookup.space lookup.page }
     requires first { IsOfPair first.old.spec }
     requires second { IsOfPair second.old.spec }

@@ -117,7 +117,8 @@ pub(crate) fn search<S: Shape>(
 {
     let lookup = Lookup { space, page, tag };
     match look_once(shape, known, kind, false, lookup) {
-        Answered::Word { word } | Answered::Large { word } => Some(word),
+        Answered::Word { word } => Some(word),
+        Answered::Large { word } => Some(word),
         Answered::Nowhere => None,
         Answered::Unknown => search_above(shape, known, kind, space, page, tag),
     }
@@ -141,7 +142,8 @@ fn search_above<S: Shape>(
 {
     let lookup = Lookup { space, page, tag };
     match look_once(shape, known, kind, true, lookup) {
-        Answered::Word { word } | Answered::Large { word } => Some(word),
+        Answered::Word { word } => Some(word),
+        Answered::Large { word } => Some(word),
         Answered::Nowhere => None,
         Answered::Unknown => look_in_turn(shape, known, kind, space, page),
     }

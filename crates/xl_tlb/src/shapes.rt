@@ -1,13 +1,12 @@
 //! The shapes that a row's arrays have, chosen once, at opening.
 
-ghost use Rattle.std.specs.Prelude.{◌≡◌, ◌<◌, ◌^◌, List, [], map, IfSome, IfNone};
+ghost use Rattle.std.specs.Prelude.{◌≡◌, ◌<◌, ◌^◌, List, map, IfSome, IfNone};
 ghost use Rattle.xl_model.specs.Tlb.{TlbArray};
 ghost use Rattle.xl_model.specs.declared.address.Order.TheVariants as order_of;
 ghost use Rattle.xl_model.specs.LeafWords.{small_leaf};
 ghost use Rattle.xl_tlb.specs.Answers.{IsLooked, IsWord};
 ghost use Rattle.xl_tlb.specs.Fits.{fits_in};
 ghost use Rattle.xl_tlb.specs.Known.{Knows};
-ghost use Rattle.xl_tlb.specs.Shapes.{alone_at};
 ghost use Rattle.xl_tlb.specs.declared.newest.MruPages.{MruPages as PagesOf};
 ghost use Rattle.xl_tlb.specs.Lookup.{IsLookup};
 ghost use Rattle.xl_tlb.specs.Tlbs.{spec_of, tlb_filled};
@@ -32,34 +31,24 @@ pub(crate) enum AnyShape {
     InTurn,
 }
 
-/// The shape of these arrays.
-fn shape_of(levels: &Levels) -> AnyShape
-    ensures { (pages : PagesOf) → Knows pages [] → Knows pages (alone_at 0 levels.now.arrays)
-        → fits_in result pages levels.now.arrays }
-{
-    let arrays: &[_] = &levels.arrays;
-    if are_joint(arrays) {
-        return AnyShape::Joint(Joint);
-    }
-    if are_split(arrays) {
-        return AnyShape::Split(Split::new());
-    }
-    if is_one(arrays) {
-        let eights = has_eights(arrays);
-        return AnyShape::One(One { eights });
-    }
-    AnyShape::InTurn
-}
-
 impl AnyShape {
-    /// The shape of these arrays, and no page is known of them.
-    pub fn of(levels: Levels) -> (AnyShape, Known)
-        ensures levels { result.1.levels ≡ levels }
-        ensures fits { fits_in result.0 result.1.pages levels.arrays }
+    /// The shape of these arrays, of which nothing is known.
+    pub fn of(levels: &Levels) -> AnyShape
+        ensures { (pages : PagesOf) → ((arrays : List TlbArray) → Knows pages arrays)
+            → fits_in result pages levels.now.arrays }
     {
-        let shape = shape_of(&levels);
-        let pages = MruPages::none();
-        (shape, Known { levels, pages })
+        let arrays: &[_] = &levels.arrays;
+        if are_joint(arrays) {
+            return AnyShape::Joint(Joint);
+        }
+        if are_split(arrays) {
+            return AnyShape::Split(Split::new());
+        }
+        if is_one(arrays) {
+            let eights = has_eights(arrays);
+            return AnyShape::One(One { eights });
+        }
+        AnyShape::InTurn
     }
 
     /// The word of a page that was answered of late by a leaf of 4 KiB that is still the newest of

@@ -158,6 +158,7 @@ impl Split {
 
 impl Shape for Split {
     ghost first = { first_of_kind };
+
     ghost fits = { λ s pages arrays. FitsSplit s.of_fetches s.of_data pages arrays };
 
     #[inline(always)]
