@@ -43,7 +43,7 @@ pub use Rattle.xl_tlb.specs.Held.{Counts, IsKnown, IsSmall}
 pub use Rattle.xl_tlb.specs.Hits.{hit_touched, leaf_hit, word_touched}
 pub use Rattle.xl_tlb.specs.Known.{IsKey, Knows, no_key}
 pub use Rattle.xl_tlb.specs.Lookup.{IsFill, IsFilled, IsLookup, IsTouched}
-pub use Rattle.xl_tlb.specs.Shapes.{all_first, Alone, alone_at, AreJoint, AreSplit, AreThree, AreTwo, AtBoth, AtFetch, AtKind, AtLoad, AtOne, AtStore, Both, first_of_kind, FitsSplit, IsAloneFill, IsAloneLook, IsKept, IsKnownAnswer, IsKnownWord, IsOne, IsPairFill, IsPairLook}
+pub use Rattle.xl_tlb.specs.Shapes.{all_first, Alone, alone_at, AreJoint, AreSplit, AreThree, AreTwo, AtBoth, AtFetch, AtKind, AtLoad, AtOne, AtStore, Both, first_of_kind, FitsSplit, IsAloneFill, IsAloneLook, IsKept, IsKnownAnswer, IsKnownWord, IsOfPair, IsOne, IsPairFill, IsPairLook}
 pub use Rattle.xl_tlb.specs.Tlbs.{bumped_where, fills_replied, hits_up_to, IsRising, IsTlb, leaf_replied, looked_arrays, misses_up_to, NoneBelow, Replied, replied, spec_of, tlb_of, TlbState}
 unfoldable pub use Rattle.xl_tlb.specs.Tlbs.{tlb_fenced, tlb_filled, tlb_looked, tlb_purged}
 pub use Rattle.xl_tlb.specs.declared.coding.Hit.{Hit}

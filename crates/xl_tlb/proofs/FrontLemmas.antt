@@ -1,5 +1,5 @@
 -- A leaf of 4 KiB that answers a look, and arrays of higher levels.
-use Rattle.xl_tlb.proofs.Common.{◌%◌, ◌&&◌, ◌*◌, ◌/◌, ◌<◌, ◌∙◌, ◌∷◌, ◌≡◌, ◌≤◌, [], ap, arith, array_filled, array_hit, array_touched, Bool, counted, covers_as, false, filled_where, find, found_as, get_or, get_or-set_same, hits_up_to, is_some, IsFrontHit, IsRising, IsTouch, Kind, Leaf, length, List, map, misses_up_to, nat_le, nat_tests, NoneBelow, not, one_more_where, Option, refl, serves_kind, set, set-get_or, set_at, set_number, small_leaf, Some, spec_of, subst, suc, sym, take, takes_order, TlbArray, TlbSpec, touched, true, where_taken, with_newest, without_first, word_touched, zero, ℕ}
+use Rattle.xl_tlb.proofs.Common.{◌%◌, ◌&&◌, ◌*◌, ◌/◌, ◌<◌, ◌∙◌, ◌∷◌, ◌≡◌, ◌≤◌, [], ap, arith, array_filled, array_hit, array_touched, Bool, counted, covers_as, false, filled_where, find, first_found, found_as, get_or, get_or-set_same, hits_up_to, is_some, IsFrontHit, IsRising, IsTouch, Kind, Leaf, length, List, map, misses_up_to, nat_le, nat_tests, None, NoneBelow, not, one_more_where, Option, refl, serves_kind, set, set-get_or, set_at, set_number, small_leaf, Some, spec_of, subst, suc, sym, take, takes_order, TlbArray, TlbSpec, touched, true, where_taken, with_newest, without_first, word_touched, zero, ℕ}
 use Rattle.xl_tlb.proofs.LevelLemmas.{and_false}
 use Rattle.xl_model.specs.declared.address.Order.TheVariants as order
 
@@ -64,6 +64,11 @@ module _ (space page word : ℕ) where
 pub array_found : (a : TlbArray) (space page : ℕ) (leaf : Leaf) → Some leaf ≡ found_as a space page order.K4 → Some leaf ≡ array_hit a space page
 unfolding array_hit
 array_found a space page leaf e = rw (← e) refl
+
+-- a larger leaf is found, where there is none of 4 KiB
+pub large_found : (a : TlbArray) (space page : ℕ) (leaf : Leaf) → None ≡ found_as a space page order.K4 → Some leaf ≡ first_found (found_as a space page order.M2) (found_as a space page order.G1) → Some leaf ≡ array_hit a space page
+unfolding array_hit
+large_found a space page leaf none e = rw (← none) e
 
 above : (level other : ℕ) (specs : List TlbSpec) → level < other → NoneBelow other specs → NoneBelow (suc level) specs
 above level other [] l h = tt
