@@ -8,14 +8,14 @@ use Rattle.xl_tlb.proofs.TlbLemmas.{count_first, filled_first, look_after, look_
 use Rattle.xl_model.specs.declared.address.Order.TheVariants as order
 use Rattle.xl_tlb.specs.declared.pair.Seen.TheVariants as seen
 
--- A look at these arrays tells this, and leaves those with these counts.
+-- The result of a look at these arrays, and the arrays and counts that it leaves.
 pub record IsLookAt (k : Kind) (space page : ℕ) (f : Option Replied) (arrays new : List TlbArray) (hits h misses m : List ℕ) : Type 0 where
-  pub tells : f ≡ replied k (answer_of k arrays space page) arrays
+  pub replies : f ≡ replied k (answer_of k arrays space page) arrays
   pub leaves : new ≡ looked_arrays k (answer_of k arrays space page) space page arrays
   pub hit : h ≡ counted (hits_at k (answer_of k arrays space page) space page) arrays hits
   pub missed : m ≡ counted (misses_at k (answer_of k arrays space page) space page) arrays misses
 
--- What is told with an array before, which doesn't answer, and what becomes of that.
+-- The result with an array before, which doesn't answer, and what becomes of that.
 abbrev replied_past : Kind → TlbArray → Option Replied → Option Replied
 replied_past k a None = None
 replied_past k a (Some f) = Some (with_one (fills_array k f.level f.leaf a) f)
@@ -56,7 +56,7 @@ none_counted p (a ∷ rest) (n ∷ ns) k level b h = rw (h a b.0) (ap (λ (z : L
 
 module _ (k : Kind) (space page : ℕ) where
   pub look_none : (hits misses : List ℕ) → IsLookAt k space page None [] [] hits hits misses misses
-  look_none hits misses = record { tells = refl; leaves = refl; hit = refl; missed = refl }
+  look_none hits misses = record { replies = refl; leaves = refl; hit = refl; missed = refl }
 
   -- the first array answers, and the others are not looked at
   pub look_hit : (leaf : Leaf) (a new : TlbArray) (rest : List TlbArray) (n : ℕ) (hits : List ℕ) (b : ℕ) (misses : List ℕ) → serves_kind k a ≡ true → Some leaf ≡ array_hit a space page → new ≡ array_touched space page leaf a
@@ -71,7 +71,7 @@ module _ (k : Kind) (space page : ℕ) where
       let m : b ∷ misses ≡ counted (misses_at k (Some x) space page) (a ∷ rest) (b ∷ misses) =
       rw (s, le_self a.spec.level, ← hit) (ap (λ (z : List ℕ). b ∷ z) (none_counted (misses_at k (Some x) space page) rest misses k a.spec.level beyond (λ c t. and_with (serves_kind k c && nat_le c.spec.level a.spec.level) (not (is_some (array_hit c space page))) t))) in
       record {
-        tells = first_replied k a rest space page leaf e low;
+        replies = first_replied k a rest space page leaf e low;
         leaves = first_arrays k a rest space page leaf new e moved;
         hit = h ∙ ap (λ (o : Option Answer). counted (hits_at k o space page) (a ∷ rest) (n ∷ hits)) (sym answer);
         missed = m ∙ ap (λ (o : Option Answer). counted (misses_at k o space page) (a ∷ rest) (b ∷ misses)) (sym answer);
@@ -86,17 +86,17 @@ module _ (k : Kind) (space page : ℕ) where
       → new ≡ left_past k a f → IsLookAt k space page f rest others hits h misses m
       → IsLookAt k space page (replied_past k a f) (a ∷ rest) (new ∷ others) (n ∷ hits) (n ∷ h) (b ∷ misses) (one_more_where (serves_kind k a) b ∷ m)
   look_past None a new rest others n hits h b misses m e low is l =
-      let none : answer_of k rest space page ≡ None = none_answers (answer_of k rest space page) rest l.tells in
+      let none : answer_of k rest space page ≡ None = none_answers (answer_of k rest space page) rest l.replies in
       let same : answer_of k (a ∷ rest) space page ≡ None = rw (← e) none in
       record {
-        tells = ap (λ (o : Option Answer). replied k o (a ∷ rest)) (sym same);
+        replies = ap (λ (o : Option Answer). replied k o (a ∷ rest)) (sym same);
         leaves = ap (λ (y : TlbArray). y ∷ others) is ∙ ap (λ (z : List TlbArray). a ∷ z) (l.leaves ∙ ap (λ (o : Option Answer). looked_arrays k o space page rest) none) ∙ ap (λ (o : Option Answer). looked_arrays k o space page (a ∷ rest)) (sym same);
         hit = ap (λ (z : List ℕ). n ∷ z) l.hit ∙ more_hits k a rest space page e low n hits;
         missed = ap (λ (z : List ℕ). one_more_where (serves_kind k a) b ∷ z) l.missed ∙ more_misses k a rest space page e low b misses;
       }
   look_past (Some f) a new rest others n hits h b misses m e low is l = record {
-    tells = more_replied k a rest space page f e l.tells;
-    leaves = more_arrays k a rest space page f new others e l.tells is l.leaves;
+    replies = more_replied k a rest space page f e l.replies;
+    leaves = more_arrays k a rest space page f new others e l.replies is l.leaves;
     hit = ap (λ (z : List ℕ). n ∷ z) l.hit ∙ more_hits k a rest space page e low n hits;
     missed = ap (λ (z : List ℕ). one_more_where (serves_kind k a) b ∷ z) l.missed ∙ more_misses k a rest space page e low b misses;
   }
@@ -195,8 +195,8 @@ leaf_of_replied k (Some x) arrays f e = cc
 pub seen_word : (first : Kind → ℕ) (k : Kind) (space page word fills n : ℕ) (arrays new : List TlbArray) (hits h misses m : List ℕ) → IsSeen k space page word fills n arrays new hits h misses m → IsKept first k space page word arrays new
     → IsKnownWord first k space page word (tlb_of arrays hits misses fills) (tlb_of new h m n)
 seen_word first k space page word fills n arrays new hits h misses m is kept = record {
-  found = ap (λ (x : Leaf). Some x) (sym is.leaf) ∙ leaf_of_replied k (answer_of k arrays space page) arrays is.found is.look.tells;
-  after = ap (λ (x : ℕ). tlb_of new h m x) is.filled ∙ look_after k arrays new hits misses h m fills space page is.look.leaves is.look.hit is.look.missed is.found is.look.tells;
+  found = ap (λ (x : Leaf). Some x) (sym is.leaf) ∙ leaf_of_replied k (answer_of k arrays space page) arrays is.found is.look.replies;
+  after = ap (λ (x : ℕ). tlb_of new h m x) is.filled ∙ look_after k arrays new hits misses h m fills space page is.look.leaves is.look.hit is.look.missed is.found is.look.replies;
   kept = kept;
 }
 
@@ -207,20 +207,20 @@ large_word k space page word fills f arrays new hits h misses m l none says smal
     let same : fills ≡ plus fills f.fills = omega (arith, small, none) in
     record {
       leaf = f.leaf;
-      found = leaf_of_replied k (answer_of k arrays space page) arrays f l.tells;
+      found = leaf_of_replied k (answer_of k arrays space page) arrays f l.replies;
       says = says;
-      after = ap (λ (x : ℕ). tlb_of new h m x) same ∙ look_after k arrays new hits misses h m fills space page l.leaves l.hit l.missed f l.tells;
+      after = ap (λ (x : ℕ). tlb_of new h m x) same ∙ look_after k arrays new hits misses h m fills space page l.leaves l.hit l.missed f l.replies;
     }
 
--- what is told of a look without an answer
+-- the result of a look without an answer
 pub none_of_replied : (k : Kind) (o : Option Answer) (arrays : List TlbArray) → None ≡ replied k o arrays → None ≡ leaf_replied o
 none_of_replied k None arrays e = refl
 none_of_replied k (Some x) arrays e = cc
 
 pub seen_none : (k : Kind) (space page fills : ℕ) (arrays new : List TlbArray) (hits h misses m : List ℕ) → IsLookAt k space page None arrays new hits h misses m → IsNowhere k space page (tlb_of arrays hits misses fills) (tlb_of new h m fills)
 seen_none k space page fills arrays new hits h misses m l = record {
-  found = ap leaf_replied (sym (none_answers k space page (answer_of k arrays space page) arrays l.tells));
-  after = look_missed k arrays new hits misses h m fills space page l.leaves l.hit l.missed l.tells;
+  found = ap leaf_replied (sym (none_answers k space page (answer_of k arrays space page) arrays l.replies));
+  after = look_missed k arrays new hits misses h m fills space page l.leaves l.hit l.missed l.replies;
 }
 
 -- a fill of an array passes one that doesn't serve the access

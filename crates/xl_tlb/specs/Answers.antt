@@ -1,4 +1,4 @@
--- What a look in all levels tells, and what it leaves.
+-- The result of a look in all levels, and what it leaves.
 use Rattle.std.specs.Prelude.{ℕ, ◌≡◌, ◌+◌, ◌-◌, ◌/◌, ◌<◌, ◌^◌, Option, Some, None}
 use Rattle.xl_model.specs.declared.address.Kind.{Kind}
 use Rattle.xl_model.specs.declared.leaf.Leaf.{Leaf}

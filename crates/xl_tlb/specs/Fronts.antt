@@ -1,4 +1,4 @@
--- A leaf of 4 KiB that answers a look: it comes to the front of its set, or is there.
+-- A leaf of 4 KiB that answers a look: it moves to the front of its set, or is there.
 use Rattle.std.specs.Prelude.{ℕ, ◌≡◌, ◌%◌, List, [], ◌∷◌, map, None, Some}
 use Rattle.xl_model.specs.declared.address.Order.TheVariants as order
 use Rattle.xl_model.specs.Recency.{touched}

@@ -32,7 +32,7 @@ pub record IsTouched (o : Order) (s : Lookup) (a : TlbArray) (word : Option ℕ)
   pub some : IfSome word (λ w. new ≡ word_touched s.space s.page o w a)
   pub none : IfNone word (new ≡ a)
 
--- The array is filled with the leaf of the order with this word, whether it holds a leaf more then is told, and of 4 KiB it is the newest of its set.
+-- The array is filled with the leaf of the order with this word, whether it holds a leaf more is the result, and of 4 KiB it is the newest of its set.
 pub record IsFilled (o : Order) (s : Lookup) (word : ℕ) (a : TlbArray) (grown : Bool) (new : TlbArray) : Type 0 where
   pub array : new ≡ array_filled (leaf_with s.space s.page o word) a
   pub held : leaves_in_sets new.sets ≡ one_if grown + leaves_in_sets a.sets

@@ -82,7 +82,7 @@ alone_at i [] = []
 alone_at zero (a ∷ rest) = a ∷ []
 alone_at (suc i) (a ∷ rest) = alone_at i rest
 
--- What a look in two arrays tells, and what it leaves of them.
+-- The result of a look in two arrays, and what it leaves of them.
 abbrev pub IsPairLook : ℕ → ℕ → Seen → TlbArray → TlbArray → TlbArray → TlbArray → Type 0
 IsPairLook space page (seen.First word) a b new after = IsTouch space page word a new × (after ≡ b)
 IsPairLook space page (seen.Second word) a b new after =
@@ -107,7 +107,7 @@ pub data AtKind (P : TlbArray → TlbArray → TlbArray → TlbArray → Type 0)
 pub data AtBoth (P : TlbArray → TlbArray → TlbArray → TlbArray → Type 0) : List TlbArray → List TlbArray → Type 0 where
   Both : (a s new after : TlbArray) (is : P a s new after) → AtBoth P (a ∷ s ∷ []) (new ∷ after ∷ [])
 
--- What a look in one array tells, and what it leaves of it.
+-- The result of a look in one array, and what it leaves of it.
 abbrev pub IsAloneLook : ℕ → ℕ → Answered → TlbArray → TlbArray → Type 0
 IsAloneLook space page (answered.Word word) a new = IsTouch space page word a new
 IsAloneLook space page (answered.Large word) a new = IsLargeTouch space page word a new
