@@ -60,7 +60,8 @@ pub(crate) trait Shape: Drop {
         requires { IsLookup order_of.K4 lookup }
         ensures { (old new : List TlbArray) → fits self.old pages.old old
             → map spec_of new ≡ map spec_of old
-            → IsKept first kind lookup.space lookup.page word old new → fits self.new pages.new new };
+            → IsKept first kind lookup.space lookup.page word old new
+            → fits self.new pages.new new };
 
     /// Nothing is known from now on: whatever changes in the arrays, they are of this shape.
     fn forget(&mut self, pages: &mut MruPages)

@@ -91,7 +91,8 @@ impl Levels {
         requires split { AreSplit (map spec_of self.old.arrays) }
         requires lacks { above ≡ true → FirstLacks lookup.space lookup.page
             (alone_at (first_of_kind kind) self.old.arrays) }
-        ensures { IsKnownAnswer first_of_kind kind lookup.space lookup.page result self.old self.new }
+        ensures { IsKnownAnswer first_of_kind kind lookup.space lookup.page result
+            self.old self.new }
     {
         let seen = look_split(&mut self.arrays, kind, above, lookup);
         self.count(first_of(kind), 2, seen)
