@@ -17,8 +17,8 @@ pub use Rattle.xl_model.specs.Mapping.{covers, is_leaf}
 pub use Rattle.xl_model.specs.Ranges.{holds_page, same_perm}
 pub use Rattle.xl_model.specs.Recency.{in_front, purged, touched, with_newest, without_first}
 pub use Rattle.xl_model.specs.Tally.{counted, one_more_where}
-pub use Rattle.xl_model.specs.Tlb.{Answer, answer_of, answered_by, array_without, asked, covers_as, filled_below, filled_for, filled_where, fills_array, first_found, found_as, hits_at, is_looked, is_purged, leaves_in_sets, misses_at, opening_array, reaches_leaf, serves_as, serves_kind, set_at, set_number, takes_leaf, takes_order, TlbArray, touched_or, where_taken, with_set}
-unfoldable pub use Rattle.xl_model.specs.Tlb.{array_filled, array_hit, array_touched, arrays_filled, arrays_hit, arrays_without, opening_arrays}
+pub use Rattle.xl_model.specs.Tlb.{Answer, answer_of, array_without, asked, covers_as, filled_below, filled_for, filled_where, fills_array, first_found, found_as, hits_at, is_looked, is_purged, leaves_in_sets, misses_at, opening_array, reaches_leaf, serves_as, serves_kind, set_at, set_number, takes_leaf, takes_order, TlbArray, where_taken, with_set}
+unfoldable pub use Rattle.xl_model.specs.Tlb.{array_filled, array_hit, array_touched, arrays_filled, arrays_hit, arrays_without}
 pub use Rattle.xl_model.specs.Walks.{with_fill, with_touch}
 pub use Rattle.xl_model.specs.declared.address.Kind.{Kind}
 pub use Rattle.xl_model.specs.declared.address.Order.{Order}
@@ -30,22 +30,23 @@ pub use Rattle.xl_model.specs.declared.row.Serves.{Serves}
 pub use Rattle.xl_model.specs.declared.row.TlbSpec.{TlbSpec}
 pub use Rattle.xl_recency.specs.Lists.{items_in}
 pub use Rattle.xl_recency.specs.declared.item.Item.{Item}
-pub use Rattle.xl_tlb.specs.Answers.{IsFirstReplied, IsLooked, IsNowhere, IsPageWord, IsSmallWord, IsWord}
+pub use Rattle.xl_tlb.specs.Answers.{IsLooked, IsNowhere, IsPageWord, IsWord}
 pub use Rattle.xl_tlb.specs.Any.{array_in}
 pub use Rattle.xl_tlb.specs.Arrays.{covers_anywhere, covers_anywhere_as, is_any, is_in_set, is_of_space, is_same, IsArray, IsFit}
 pub use Rattle.xl_tlb.specs.Coding.{has_block, has_space, has_tag, is_item, leaves_of}
 unfoldable pub use Rattle.xl_tlb.specs.Coding.{leaf_of, tag_of}
+pub use Rattle.xl_tlb.specs.Counted.{answered_as, hit_at, IsState, one_more_at, seen_in}
 pub use Rattle.xl_tlb.specs.Equal.{is_equal, keeps_leaf}
 pub use Rattle.xl_tlb.specs.Founds.{found_leaf, replied_of}
-pub use Rattle.xl_tlb.specs.Fronts.{AllMiss, AreMissed, FirstHit, FirstLeaf, FirstMisses, Front, FrontsStay, HasEights, IsFirstHit, IsFirstLeaf, IsFirstMiss, IsFront, IsFrontHit, IsSecondHit, IsTouch, SecondHit}
+pub use Rattle.xl_tlb.specs.Fronts.{FirstLacks, FrontsStay, HasEights, IsFront, IsFrontHit, IsLargeTouch, IsTouch, LacksSmall}
 pub use Rattle.xl_tlb.specs.Held.{Counts, IsKnown, IsSmall}
-pub use Rattle.xl_tlb.specs.Hits.{hit_leaf, hit_touched, leaf_hit, word_touched}
+pub use Rattle.xl_tlb.specs.Hits.{hit_touched, leaf_hit, word_touched}
 pub use Rattle.xl_tlb.specs.Known.{IsKey, Knows, no_key}
-pub use Rattle.xl_tlb.specs.Paths.{AllServe, IsPath, IsTlb}
 pub use Rattle.xl_tlb.specs.Lookup.{IsFill, IsFilled, IsLookup, IsTouched}
-pub use Rattle.xl_tlb.specs.Splits.{alone, AreSplit, AreThree, as_all, AtFetch, AtKind, AtLoad, AtStore, first_for, first_of_kind, IsEither, IsKept, IsPairFill, IsPairLook, IsSplit, IsSplitFill, IsSplitLook, IsSplitWord}
-pub use Rattle.xl_tlb.specs.Tlbs.{bumped_where, fills_replied, hits_up_to, IsAlone, IsRising, IsStraight, leaf_replied, looked_arrays, looked_by, misses_up_to, NoneBelow, ServesAlone, spec_of, tlb_of, TlbState, Replied, replied}
-unfoldable pub use Rattle.xl_tlb.specs.Tlbs.{tlb_fenced, tlb_filled, tlb_looked, tlb_opening, tlb_purged}
+pub use Rattle.xl_tlb.specs.Shapes.{all_first, Alone, alone_at, AreJoint, AreSplit, AreThree, AreTwo, AtBoth, AtFetch, AtKind, AtLoad, AtOne, AtStore, Both, first_of_kind, FitsSplit, IsAloneFill, IsAloneLook, IsKept, IsKnownAnswer, IsKnownWord, IsOfPair, IsOne, IsPairFill, IsPairLook}
+pub use Rattle.xl_tlb.specs.Tlbs.{bumped_where, fills_replied, hits_up_to, IsRising, IsTlb, leaf_replied, looked_arrays, misses_up_to, NoneBelow, Replied, replied, spec_of, tlb_of, TlbState}
+unfoldable pub use Rattle.xl_tlb.specs.Tlbs.{tlb_fenced, tlb_filled, tlb_looked, tlb_purged}
 pub use Rattle.xl_tlb.specs.declared.coding.Hit.{Hit}
-pub use Rattle.xl_tlb.specs.declared.newest.MruPages.{MruPages}
 pub use Rattle.xl_tlb.specs.declared.lookup.Lookup.{Lookup}
+pub use Rattle.xl_tlb.specs.declared.newest.MruPages.{MruPages}
+pub use Rattle.xl_tlb.specs.declared.pair.Seen.{Seen}

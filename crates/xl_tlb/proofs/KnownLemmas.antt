@@ -1,5 +1,5 @@
 -- What is known of pages after one was kept or forgotten.
-use Rattle.xl_tlb.proofs.Common.{◌%◌, ◌*◌, ◌+◌, ◌<◌, ◌==◌, ◌∙◌, ◌∷◌, ◌≡◌, ◌≢◌, [], ap, arith, Bool, false, FrontsStay, get_or, get_or-set_other, IsFront, IsKey, IsLookup, Knows, length, List, nat_tests, MruPages, no_key, refl, set, Lookup, subst, suc, tag_of, TlbArray, true, zero, ℕ}
+use Rattle.xl_tlb.proofs.Common.{◌%◌, ◌*◌, ◌+◌, ◌<◌, ◌==◌, ◌∙◌, ◌∷◌, ◌≡◌, ◌≢◌, [], ap, arith, Bool, false, FrontsStay, get_or, get_or-set_other, IsFront, IsKey, IsLookup, Knows, length, List, Lookup, MruPages, nat_tests, no_key, refl, set, subst, suc, tag_of, TlbArray, true, zero, ℕ}
 use Rattle.xl_model.specs.declared.address.Order.TheVariants as order
 
 -- no page has the key of an empty slot

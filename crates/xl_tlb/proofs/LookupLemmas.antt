@@ -1,5 +1,5 @@
 -- What stays known of an array that was touched or filled with a tag.
-use Rattle.xl_tlb.proofs.Common.{◌∙◌, ap, Bool, Counts, IsFilled, IsKnown, IsTouched, leaves_in_sets, Option, Order, refl, small_leaf, Lookup, spec_of, sym, TlbArray, TlbSpec, ℕ}
+use Rattle.xl_tlb.proofs.Common.{◌∙◌, ap, Bool, Counts, IsFilled, IsKnown, IsTouched, leaves_in_sets, Lookup, Option, Order, refl, small_leaf, spec_of, sym, TlbArray, TlbSpec, ℕ}
 use Rattle.xl_tlb.proofs.HeldLemmas.{word-held}
 use Rattle.xl_tlb.proofs.LevelLemmas.{spec_filled, spec_word}
 use Rattle.xl_tlb.proofs.SmallLemmas.{filled-small, word-small}

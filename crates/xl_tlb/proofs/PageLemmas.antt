@@ -1,5 +1,5 @@
 -- The word of a page of a leaf.
-use Rattle.xl_tlb.proofs.Common.{◌%◌, ◌*◌, ◌+◌, ◌-◌, ◌/◌, ◌<◌, ◌^◌, ◌≡◌, arith, IsPageWord, IsSmallWord, IsWord, Kind, leaf_with, Order, pages_of, perm_at, refl, small_leaf, TlbState, ℕ}
+use Rattle.xl_tlb.proofs.Common.{◌%◌, ◌*◌, ◌+◌, ◌-◌, ◌/◌, ◌<◌, ◌^◌, ◌≡◌, arith, IsPageWord, leaf_with, Order, pages_of, perm_at, refl, small_leaf, ℕ}
 
 -- a permission is four bits, and a frame is above them
 same_perm : (word following : ℕ) → perm_at ((word + following * 16) % 2 ^ 64) ≡ perm_at word
@@ -21,11 +21,3 @@ page_says space page word following result o is e =
 -- a leaf of 4 KiB has one page
 pub small_says : (space page word : ℕ) → IsPageWord page word (small_leaf space page word)
 small_says space page word = record { frame = λ fits. omega arith; perm = refl }
-
-pub small_word : (kind : Kind) (space page word : ℕ) (old new : TlbState) → IsSmallWord kind space page word old new → IsWord kind space page word old new
-small_word kind space page word old new is = record {
-  leaf = small_leaf space page word;
-  found = is.found;
-  says = small_says space page word;
-  after = is.after;
-}

@@ -1,8 +1,7 @@
 -- Leaves in front that stay there where one set of the first array changes.
-use Rattle.xl_tlb.proofs.Common.{◌%◌, ◌&&◌, ◌*◌, ◌/◌, ◌∙◌, ◌∷◌, ◌≡◌, ◌≢◌, [], Answer, answer_of, ap, arith, array_filled, array_touched, arrays_filled, arrays_hit, asked, Bool, cond, covers_as, false, filled_below, filled_for, filled_where, find, Front, FrontsStay, get_or, get_or-set_other, HasEights, IsFront, IsFrontHit, Kind, Leaf, leaf_replied, leaf_with, List, looked_arrays, map, mod-mod_of_dvd, nat_lt, None, Option, Order, pages_of, refl, serves_kind, ServesAlone, set_at, set_number, small_leaf, Some, spec_of, subst, sym, takes_order, tlb_filled, tlb_looked, TlbArray, TlbSpec, TlbState, touched, true, where_taken, with_set, ℕ}
+use Rattle.xl_tlb.proofs.Common.{◌%◌, ◌/◌, ◌∙◌, ◌∷◌, ◌≡◌, ◌≢◌, [], alone_at, Answer, answer_of, ap, arith, array_filled, array_touched, Bool, covers_as, false, filled_where, find, FrontsStay, get_or, get_or-set_other, IsFront, IsFrontHit, IsKept, IsTouch, Kind, Leaf, leaf_replied, List, looked_arrays, mod-mod_of_dvd, None, Option, refl, set_at, set_number, small_leaf, Some, subst, sym, takes_order, tlb_looked, TlbArray, TlbSpec, TlbState, touched, true, where_taken, with_set, ℕ}
 use Rattle.std.proofs.lemmas.Nat.Gcd.{dvd_of_mod-eq-zero}
 use Rattle.xl_tlb.proofs.FillLemmas.{hit_set}
-use Rattle.xl_tlb.proofs.TlbLemmas.{specs_filled, specs_hit}
 use Rattle.xl_model.specs.declared.address.Order.TheVariants as order
 
 -- an array that is another but for one set
@@ -25,20 +24,6 @@ filled_others leaf a = go (takes_order a.spec leaf.order)
     go true = set_others a _ _
     go false = record { same_spec = refl; same_sets = λ j n. refl }
 
-below_others : (kind : Kind) (level : ℕ) (leaf : Leaf) (a : TlbArray) → OtherSets (set_number a.spec leaf.order leaf.first) a (filled_below kind level leaf a)
-below_others kind level leaf a = go (serves_kind kind a && nat_lt a.spec.level level)
-  where
-    go : (b : Bool) → OtherSets (set_number a.spec leaf.order leaf.first) a (cond b (array_filled leaf a) a)
-    go true = filled_others leaf a
-    go false = record { same_spec = refl; same_sets = λ j n. refl }
-
-for_others : (kind : Kind) (leaf : Leaf) (a : TlbArray) → OtherSets (set_number a.spec leaf.order leaf.first) a (filled_for kind leaf a)
-for_others kind leaf a = go (serves_kind kind a)
-  where
-    go : (b : Bool) → OtherSets (set_number a.spec leaf.order leaf.first) a (cond b (array_filled leaf a) a)
-    go true = filled_others leaf a
-    go false = record { same_spec = refl; same_sets = λ j n. refl }
-
 -- numbers that are apart by their last three bits are apart by a multiple of eight
 apart : (n x y : ℕ) → n % 8 ≡ 0 → (x % 8 ≡ y % 8 → ⊥) → x % n ≢ y % n
 apart n x y e d same =
@@ -57,63 +42,15 @@ module _ (space page word : ℕ) where
         stays = ap (touched p) here ∙ hit.stays ∙ sym here;
       }
 
-  parts_of : (a : TlbArray) (rest : List TlbArray) → IsFront space page word (a ∷ rest) → IsFrontHit space page word a × ServesAlone a.spec (map spec_of rest)
-  parts_of a rest (Front _ _ hit alone) = (hit, alone)
-
-pub first_stays : (x : ℕ) (a b : TlbArray) (rest others : List TlbArray) → a.spec.sets % 8 ≡ 0 → OtherSets (x % a.spec.sets) a b → map spec_of others ≡ map spec_of rest
-    → FrontsStay (x % 8) (a ∷ rest) (b ∷ others)
-first_stays x a b rest others eights o specs space page word d front =
-    let p = parts_of space page word a rest front in
+-- one array of which another set changed
+pub alone_stays : (page : ℕ) (a b : TlbArray) → a.spec.sets % 8 ≡ 0 → OtherSets (set_number a.spec order.K4 page) a b → FrontsStay (page % 8) (a ∷ []) (b ∷ [])
+alone_stays page a b eights o space other word d front =
     let one : page / 1 ≡ page = omega arith in
-    let n : page / 1 % a.spec.sets ≢ x % a.spec.sets = rw one (apart a.spec.sets page x eights d) in
-    Front b others (hit_stays space page word (x % a.spec.sets) a b o n p.0) (rw (o.same_spec, specs) p.1)
+    let two : other / 1 ≡ other = omega arith in
+    let n : other / 1 % a.spec.sets ≢ page / 1 % a.spec.sets = rw (one, two) (apart a.spec.sets other page eights d) in
+    hit_stays space other word (set_number a.spec order.K4 page) a b o n front
 
--- a look changes one set of the first array
-module _ (kind : Kind) (space page word : ℕ) (o : Order) where
-  looked_stays : (arrays : List TlbArray) → Some (leaf_with space page o word) ≡ leaf_replied (answer_of kind arrays space page) → HasEights arrays
-      → FrontsStay (page / pages_of o % 8) arrays (looked_arrays kind (answer_of kind arrays space page) space page arrays)
-  unfolding arrays_hit
-  looked_stays [] e eights = cc
-  looked_stays (a ∷ rest) e eights = go (asked kind a space page) refl
-    where
-      same_set : (x : Leaf) → leaf_with space page o word ≡ x → set_number a.spec x.order x.first ≡ page / pages_of o % a.spec.sets
-      same_set x same = ap (λ (z : Leaf). set_number a.spec z.order z.first) (sym same) ∙ sym (hit_set a.spec page o)
-
-      up : (x : Option Answer) → asked kind a space page ≡ None → answer_of kind rest space page ≡ x
-          → FrontsStay (page / pages_of o % 8) (a ∷ rest) (looked_arrays kind (answer_of kind (a ∷ rest) space page) space page (a ∷ rest))
-      up None t u = let v : Some (leaf_with space page o word) ≡ None = rw (t, u) at e in cc
-      up (Some x) t u =
-          let v : Some (leaf_with space page o word) ≡ Some x.leaf = rw (t, u) at e in
-          let same : leaf_with space page o word ≡ x.leaf = cc in
-          let are : looked_arrays kind (answer_of kind (a ∷ rest) space page) space page (a ∷ rest) ≡ filled_below kind x.level x.leaf a ∷ arrays_hit kind x space page rest = rw (t, u, t) refl in
-          let others : OtherSets (page / pages_of o % a.spec.sets) a (filled_below kind x.level x.leaf a) =
-          subst (λ (k : ℕ). OtherSets k a (filled_below kind x.level x.leaf a)) (same_set x.leaf same) (below_others kind x.level x.leaf a) in
-          subst (FrontsStay (page / pages_of o % 8) (a ∷ rest)) (sym are)
-          (first_stays (page / pages_of o) a (filled_below kind x.level x.leaf a) rest (arrays_hit kind x space page rest) eights others (specs_hit kind x space page rest))
-
-      go : (h : Option Leaf) → asked kind a space page ≡ h
-          → FrontsStay (page / pages_of o % 8) (a ∷ rest) (looked_arrays kind (answer_of kind (a ∷ rest) space page) space page (a ∷ rest))
-      go None t = up (answer_of kind rest space page) t refl
-      go (Some leaf) t =
-          let v : Some (leaf_with space page o word) ≡ Some leaf = rw t at e in
-          let same : leaf_with space page o word ≡ leaf = cc in
-          let are : looked_arrays kind (answer_of kind (a ∷ rest) space page) space page (a ∷ rest) ≡ array_touched space page leaf a ∷ rest = rw (t, t) refl in
-          let others : OtherSets (page / pages_of o % a.spec.sets) a (array_touched space page leaf a) =
-          subst (λ (z : Leaf). OtherSets (page / pages_of z.order % a.spec.sets) a (array_touched space page leaf a)) (sym same) (touched_others space page leaf a) in
-          subst (FrontsStay (page / pages_of o % 8) (a ∷ rest)) (sym are)
-          (first_stays (page / pages_of o) a (array_touched space page leaf a) rest rest eights others refl)
-
-  pub look_stays : (t : TlbState) → Some (leaf_with space page o word) ≡ leaf_replied (answer_of kind t.arrays space page) → HasEights t.arrays
-      → FrontsStay (page / pages_of o % 8) t.arrays (tlb_looked kind space page t).arrays
-  unfolding tlb_looked
-  look_stays t e eights = looked_stays t.arrays e eights
-
-pub small_stays : (kind : Kind) (space page word : ℕ) (t : TlbState) → Some (small_leaf space page word) ≡ leaf_replied (answer_of kind t.arrays space page) → HasEights t.arrays
-    → FrontsStay (page % 8) t.arrays (tlb_looked kind space page t).arrays
-small_stays kind space page word t e eights =
-    let one : page / 1 ≡ page = omega arith in
-    subst (λ (n : ℕ). FrontsStay (n % 8) t.arrays (tlb_looked kind space page t).arrays) one (look_stays kind space page word order.K4 t e eights)
-
+-- a look that no array answers leaves all
 pub look_none : (kind : Kind) (space page : ℕ) (t : TlbState) → None ≡ leaf_replied (answer_of kind t.arrays space page) → (tlb_looked kind space page t).arrays ≡ t.arrays
 unfolding tlb_looked
 look_none kind space page t e = go (answer_of kind t.arrays space page) refl
@@ -122,26 +59,21 @@ look_none kind space page t e = go (answer_of kind t.arrays space page) refl
     go None u = rw u refl
     go (Some x) u = let v : None ≡ Some x.leaf = rw u at e in cc
 
--- and so does a fill
-filled_stays : (kind : Kind) (leaf : Leaf) (arrays : List TlbArray) → HasEights arrays → FrontsStay (leaf.first / pages_of leaf.order % 8) arrays (map (filled_for kind leaf) arrays)
-filled_stays kind leaf [] eights = λ space page word d front. front
-filled_stays kind leaf (a ∷ rest) eights =
-    first_stays (leaf.first / pages_of leaf.order) a (filled_for kind leaf a) rest (map (filled_for kind leaf) rest) eights (for_others kind leaf a) (specs_filled kind leaf rest)
+module _ (space page word : ℕ) where
+  pub touch_others : (a new : TlbArray) → IsTouch space page word a new → OtherSets (set_number a.spec order.K4 page) a new
+  touch_others a new t = subst (OtherSets (set_number a.spec order.K4 page) a) (sym t.moved) (touched_others space page (small_leaf space page word) a)
 
-pub fill_stays : (kind : Kind) (leaf : Leaf) (t : TlbState) → HasEights t.arrays → FrontsStay (leaf.first / pages_of leaf.order % 8) t.arrays (tlb_filled kind leaf t).arrays
-unfolding tlb_filled arrays_filled
-fill_stays kind leaf t eights = filled_stays kind leaf t.arrays eights
+  pub fill_others : (a new : TlbArray) → new ≡ array_filled (small_leaf space page word) a → OtherSets (set_number a.spec order.K4 page) a new
+  fill_others a new e =
+      subst (OtherSets (set_number a.spec order.K4 page) a) (sym e)
+      (subst (λ (n : ℕ). OtherSets n a (array_filled (small_leaf space page word) a)) (sym (hit_set a.spec page order.K4)) (filled_others (small_leaf space page word) a))
 
-whole_blocks : (o : Order) (page : ℕ) → page / pages_of o * pages_of o / pages_of o ≡ page / pages_of o
-whole_blocks order.K4 page = omega arith
-whole_blocks order.M2 page = omega arith
-whole_blocks order.G1 page = omega arith
-
-pub hit_fill_stays : (kind : Kind) (space page word : ℕ) (o : Order) (t : TlbState) → HasEights t.arrays → FrontsStay (page / pages_of o % 8) t.arrays (tlb_filled kind (leaf_with space page o word) t).arrays
-hit_fill_stays kind space page word o t eights =
-    subst (λ (n : ℕ). FrontsStay (n % 8) t.arrays (tlb_filled kind (leaf_with space page o word) t).arrays) (whole_blocks o page) (fill_stays kind (leaf_with space page o word) t eights)
-
-pub small_fill_stays : (kind : Kind) (space page word : ℕ) (t : TlbState) → HasEights t.arrays → FrontsStay (page % 8) t.arrays (tlb_filled kind (small_leaf space page word) t).arrays
-small_fill_stays kind space page word t eights =
-    let one : page / 1 * 1 / 1 ≡ page = omega arith in
-    subst (λ (n : ℕ). FrontsStay (n % 8) t.arrays (tlb_filled kind (small_leaf space page word) t).arrays) one (fill_stays kind (small_leaf space page word) t eights)
+-- what is known of the first array of a kind after a leaf came to its front
+pub kept_at : (first : Kind → ℕ) (k : Kind) (space page word : ℕ) (a new : TlbArray) (old after : List TlbArray) → alone_at (first k) old ≡ a ∷ [] → alone_at (first k) after ≡ new ∷ []
+    → ((j : Kind) → (first j ≡ first k → ⊥) → alone_at (first j) after ≡ alone_at (first j) old) → IsFrontHit space page word new → OtherSets (set_number a.spec order.K4 page) a new
+    → IsKept first k space page word old after
+kept_at first k space page word a new old after e f others hit o = record {
+  front = subst (IsFront space page word) (sym f) hit;
+  stays = λ eights. rw (e, f) (alone_stays page a new (rw e at eights) o);
+  others = others;
+}

@@ -10,6 +10,7 @@ use Rattle.xl_model.specs.Tlb.{TlbArray, array_filled, filled_for, found_as, lea
 use Rattle.xl_tlb.specs.Coding.{tag_of}
 use Rattle.xl_tlb.specs.Fronts.{IsFrontHit}
 use Rattle.xl_tlb.specs.Hits.{word_leaf, word_touched}
+use Rattle.xl_tlb.specs.declared.lookup.Request.{Request}
 use Rattle.xl_tlb.specs.declared.lookup.Lookup.{Lookup}
 
 -- The tag is that of the leaf of the order that covers the page.
@@ -31,7 +32,7 @@ pub record IsTouched (o : Order) (s : Lookup) (a : TlbArray) (word : Option ℕ)
   pub some : IfSome word (λ w. new ≡ word_touched s.space s.page o w a)
   pub none : IfNone word (new ≡ a)
 
--- The array is filled with the leaf of the order with this word, whether it holds a leaf more then is told, and of 4 KiB it is the newest of its set.
+-- The array is filled with the leaf of the order with this word, whether it holds a leaf more is the result, and of 4 KiB it is the newest of its set.
 pub record IsFilled (o : Order) (s : Lookup) (word : ℕ) (a : TlbArray) (grown : Bool) (new : TlbArray) : Type 0 where
   pub array : new ≡ array_filled (leaf_with s.space s.page o word) a
   pub held : leaves_in_sets new.sets ≡ one_if grown + leaves_in_sets a.sets
@@ -41,3 +42,8 @@ pub record IsFilled (o : Order) (s : Lookup) (word : ℕ) (a : TlbArray) (grown 
 pub record IsFill (k : Kind) (s : Lookup) (word fills : ℕ) (old new : List TlbArray) : Type 0 where
   pub count : fills ≡ count_by (takes_leaf k (small_leaf s.space s.page word)) old
   pub filled : new ≡ map (filled_for k (small_leaf s.space s.page word)) old
+
+-- The space and the page of an access are ones that a leaf can have.
+pub record IsRequest (r : Request) : Type 0 where
+  pub space_in : r.space < 64
+  pub page_in : r.page < 2 ^ 52

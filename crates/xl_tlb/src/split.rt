@@ -1,205 +1,187 @@
-//! The arrays of a row whose fetches and data have a first array each over one for both.
+//! Fetches and data have a first array each, over one for both.
 //!
-//! All three are common arrays. A look asks the pages that are known of the first array of its
-//! kind, then that array and the second one, in line. Where a leaf above 4 KiB may answer, it looks
-//! in turn.
+//! Taken where all three are common arrays, and the sets of the first ones a multiple of eight. The
+//! pages that are known of the first array of the access's kind, that array and the second one are
+//! looked at in line: saves the look in turn.
 
-ghost use Rattle.std.specs.Prelude.{◌≡◌, ◌==◌, ◌<◌, ◌^◌, ◌+◌, false, length, map};
+ghost use Rattle.std.specs.Prelude.{◌≡◌, true, List, [], map, IfSome};
+ghost use Rattle.xl_model.specs.Tlb.{TlbArray};
 ghost use Rattle.xl_model.specs.declared.address.Order.TheVariants as order_of;
-ghost use Rattle.xl_model.specs.Tlb.{leaf_count};
-ghost use Rattle.xl_model.specs.LeafWords.{small_leaf};
 ghost use Rattle.xl_tlb.specs.Answers.{IsLooked};
-ghost use Rattle.xl_tlb.specs.Arrays.{IsFit, InLimits};
-ghost use Rattle.xl_tlb.specs.Hits.{leaf_hit};
-ghost use Rattle.xl_tlb.specs.Known.{IsKey};
+ghost use Rattle.xl_tlb.specs.declared.newest.MruPages.{MruPages as PagesOf};
+ghost use Rattle.xl_tlb.specs.Fronts.{FirstLacks, IsFront};
+ghost use Rattle.xl_tlb.specs.Known.{Knows};
+ghost use Rattle.xl_tlb.specs.Shapes.{AreSplit, AtKind, FitsSplit, IsKnownAnswer, IsKnownFill, IsPairFill, IsPairLook, alone_at, first_of_kind};
 ghost use Rattle.xl_tlb.specs.Lookup.{IsLookup};
-ghost use Rattle.xl_tlb.specs.Splits.{AreSplit};
-ghost use Rattle.xl_tlb.specs.Tlbs.{spec_of, tlb_filled, tlb_purged, tlb_fenced};
+ghost use Rattle.xl_tlb.specs.Tlbs.{spec_of};
 
-use crate::coding::{Hit, hit_of, page_word, word_of};
+use crate::any::AnyArray;
 use crate::levels::{Answered, Levels};
 use crate::lookup::Lookup;
 use crate::newest::MruPages;
-use std::marker::Model;
-use xl_model::{Kind, Leaf, Order, Purge, Reach};
+use crate::pair::{Seen, fill_pair, first_and_rest, look_pair};
+use crate::shape::{Known, Shape, search};
+use xl_model::Kind;
 
-/// The arrays with their counts; and for each first array which pages its newest leaves answered of
-/// late.
+/// Of each first array, which pages its newest leaves answered of late.
 #[derive(Drop)]
 pub(crate) struct Split {
-    levels: Levels,
     of_fetches: MruPages,
     of_data: MruPages,
 }
 
-impl Model for Split {
-    ghost use Rattle.xl_tlb.specs.Splits.{IsSplit};
-    ghost use Rattle.xl_tlb.specs.Tlbs.{TlbState};
+/// Whether these are three such arrays.
+pub(crate) fn are_split(arrays: &[AnyArray]) -> bool
+    ensures { result ≡ true → AreSplit (map spec_of arrays.now) }
+{
+    let [fetches, data, second] = arrays else {
+        return false;
+    };
+    let apart = fetches.serves_fetches() && data.serves_data() && second.serves_all();
+    let rising = fetches.level() < second.level() && data.level() < second.level();
+    let small = fetches.takes_small() && data.takes_small() && second.takes_small();
+    let common = fetches.is_common() && data.is_common() && second.is_common();
+    apart && rising && small && common && fetches.has_eights() && data.has_eights()
+}
 
-    ghost Value = { TlbState };
+/// The number of the first array of accesses of this kind.
+#[inline(always)]
+fn first_of(kind: Kind) -> usize
+    ensures { result ≡ first_of_kind kind }
+{
+    match kind {
+        Kind::Fetch => 0,
+        Kind::Load | Kind::Store => 1,
+    }
+}
 
-    ghost view = { λ t. t.levels };
+/// Like `look_pair`, with the two arrays that serve an access of this kind.
+#[inline(always)]
+fn look_split(arrays: &mut [AnyArray], kind: Kind, above: bool, lookup: Lookup) -> Seen
+    requires lookup { IsLookup order_of.K4 lookup }
+    requires split { AreSplit (map spec_of arrays.old) }
+    requires lacks { above ≡ true → FirstLacks lookup.space lookup.page
+        (alone_at (first_of_kind kind) arrays.old) }
+    ensures { AtKind (IsPairLook lookup.space lookup.page result) kind arrays.old arrays.new }
+{
+    let (firsts, rest) = arrays.split_at_mut(2);
+    let (second, _none) = first_and_rest(rest);
+    look_pair(&mut firsts[first_of(kind)], second, above, lookup)
+}
 
-    ghost invariant = { λ t. IsSplit t.of_fetches t.of_data t.levels };
+/// Like `fill_pair`, with the two arrays that serve an access of this kind.
+#[inline(always)]
+fn fill_split(arrays: &mut [AnyArray], kind: Kind, lookup: Lookup, word: u64)
+    requires lookup { IsLookup order_of.K4 lookup }
+    requires split { AreSplit (map spec_of arrays.old) }
+    ensures { AtKind (IsPairFill lookup.space lookup.page word) kind arrays.old arrays.new }
+{
+    let (firsts, rest) = arrays.split_at_mut(2);
+    let (second, _none) = first_and_rest(rest);
+    fill_pair(&mut firsts[first_of(kind)], second, lookup, word);
+}
+
+impl Levels {
+    /// Looks for the leaf of 4 KiB that is sought in the arrays that serve accesses of this kind,
+    /// and gives its word: it is the newest of its set of the first array then. Unknown where a
+    /// larger leaf may answer; then nothing changes.
+    #[inline(always)]
+    fn look_split(&mut self, kind: Kind, above: bool, lookup: Lookup) -> Answered
+        requires lookup { IsLookup order_of.K4 lookup }
+        requires split { AreSplit (map spec_of self.old.arrays) }
+        requires lacks { above ≡ true → FirstLacks lookup.space lookup.page
+            (alone_at (first_of_kind kind) self.old.arrays) }
+        ensures { IsKnownAnswer first_of_kind kind lookup.space lookup.page result
+            self.old self.new }
+    {
+        let seen = look_split(&mut self.arrays, kind, above, lookup);
+        self.count(first_of(kind), 2, seen)
+    }
+
+    /// Fills the arrays that serve accesses of this kind with the leaf of 4 KiB that is sought.
+    #[inline(always)]
+    fn fill_split(&mut self, kind: Kind, lookup: Lookup, word: u64)
+        requires lookup { IsLookup order_of.K4 lookup }
+        requires split { AreSplit (map spec_of self.old.arrays) }
+        ensures { IsKnownFill first_of_kind kind lookup.space lookup.page word self.old self.new }
+    {
+        fill_split(&mut self.arrays, kind, lookup, word);
+        self.fills = self.fills.wrapping_add(2);
+    }
 }
 
 impl Split {
-    /// These arrays with their counts.
-    pub fn of(levels: Levels) -> Split
-        requires { AreSplit (map spec_of levels.arrays) }
-        ensures { result ≡ levels }
+    /// No page is known.
+    pub fn new() -> Split
+        ensures { (pages : PagesOf) (arrays : List TlbArray) → AreSplit (map spec_of arrays)
+            → Knows pages [] → FitsSplit result.of_fetches result.of_data pages arrays }
     {
         Split {
-            levels,
             of_fetches: MruPages::none(),
             of_data: MruPages::none(),
         }
     }
 
-    /// Looks for the page whose leaf of 4 KiB is sought, for an access of this kind, and gives its
-    /// word, as `look` of `Tlb` does.
+    /// The word of a page that is known of the first array of this kind.
     #[inline(always)]
-    pub fn look(&mut self, kind: Kind, lookup: Lookup) -> Option<u64>
+    fn word(&self, kind: Kind, lookup: Lookup) -> Option<u64>
         requires { IsLookup order_of.K4 lookup }
-        ensures { IsLooked kind lookup.space lookup.page result self.old self.new }
+        ensures { (pages : PagesOf) (arrays : List TlbArray)
+            → FitsSplit self.now.of_fetches self.now.of_data pages arrays
+            → IfSome result (λ word. IsFront lookup.space lookup.page word
+            (alone_at (first_of_kind kind) arrays)) }
     {
         match kind {
-            Kind::Fetch => {
-                if let Some(word) = self.of_fetches.word(lookup) {
-                    self.levels
-                        .hit_front_of(kind, lookup.space, lookup.page, word);
-                    return Some(word);
-                }
-            }
-            Kind::Load | Kind::Store => {
-                if let Some(word) = self.of_data.word(lookup) {
-                    self.levels
-                        .hit_front_of(kind, lookup.space, lookup.page, word);
-                    return Some(word);
-                }
-            }
-        }
-        self.search(kind, lookup.space, lookup.page, lookup.tag)
-    }
-
-    /// Like `look`, for a page of which nothing is known, and keeps what it finds.
-    #[inline(never)]
-    fn search(&mut self, kind: Kind, space: u16, page: u64, tag: u64) -> Option<u64>
-        requires { IsKey tag space page }
-        ensures { IsLooked kind space page result self.old self.new }
-    {
-        let lookup = Lookup { space, page, tag };
-        match self.levels.look_split(kind, lookup) {
-            Answered::Word { word } => match kind {
-                Kind::Fetch => {
-                    self.of_fetches.renew(true, lookup, word);
-                    Some(word)
-                }
-                Kind::Load | Kind::Store => {
-                    self.of_data.renew(true, lookup, word);
-                    Some(word)
-                }
-            },
-            Answered::Nowhere => None,
-            Answered::Unknown => self.look_in_turn(kind, space, page),
+            Kind::Fetch => self.of_fetches.word(lookup),
+            Kind::Load | Kind::Store => self.of_data.word(lookup),
         }
     }
 
-    /// Like `look`, by a look at all arrays in turn.
-    #[inline(never)]
-    fn look_in_turn(&mut self, kind: Kind, space: u16, page: u64) -> Option<u64>
-        requires space { space < 64 }
-        requires page { page < 2 ^ 52 }
-        ensures { IsLooked kind space page result self.old self.new }
+    /// Looks for the page whose leaf of 4 KiB is sought, and gives its word, as `look` of `Tlb`
+    /// does.
+    #[inline(always)]
+    pub fn look(&mut self, known: &mut Known, kind: Kind, lookup: Lookup) -> Option<u64>
+        requires lookup { IsLookup order_of.K4 lookup }
+        requires fits { FitsSplit self.old.of_fetches self.old.of_data known.old.pages
+            known.old.levels.arrays }
+        ensures looked { IsLooked kind lookup.space lookup.page result
+            known.old.levels known.new.levels }
+        ensures fits { FitsSplit self.new.of_fetches self.new.of_data known.new.pages
+            known.new.levels.arrays }
     {
-        self.of_fetches.forget();
-        self.of_data.forget();
-        let Some(hit) = self.levels.look(kind, false, space, page) else {
-            return None;
-        };
-        Some(page_word(page, hit))
-    }
-
-    /// Puts a leaf that a walk found into the arrays that serve accesses of this kind and hold its
-    /// order.
-    pub fn fill(&mut self, kind: Kind, leaf: Leaf)
-        requires { IsFit leaf }
-        ensures { self.new ≡ tlb_filled kind leaf self.old }
-    {
-        match leaf.order {
-            Order::K4 => self.fill_small(kind, leaf.space, leaf.first, word_of(leaf)),
-            Order::M2 | Order::G1 => {
-                self.fill_in_turn(kind, leaf.space, leaf.first, hit_of(leaf));
-            }
+        if let Some(word) = self.word(kind, lookup) {
+            known.levels.hit(first_of(kind));
+            return Some(word);
         }
+        search(self, known, kind, lookup.space, lookup.page, lookup.tag)
+    }
+}
+
+impl Shape for Split {
+    ghost first = { first_of_kind };
+
+    ghost fits = { λ s pages arrays. FitsSplit s.of_fetches s.of_data pages arrays };
+
+    #[inline(always)]
+    fn look_in(&self, known: &mut Known, kind: Kind, above: bool, lookup: Lookup) -> Answered {
+        known.levels.look_split(kind, above, lookup)
     }
 
-    /// Does what `fill` does with a leaf of 4 KiB, by its word, and keeps the page.
-    #[inline(never)]
-    pub fn fill_small(&mut self, kind: Kind, space: u16, page: u64, word: u64)
-        requires space { space < 64 }
-        requires page { page < 2 ^ 52 }
-        ensures { self.new ≡ tlb_filled kind (small_leaf space page word) self.old }
-    {
-        let lookup = Lookup::of(space, page, Order::K4);
-        self.levels.fill_split(kind, lookup, word);
+    #[inline(always)]
+    fn fill_in(&self, known: &mut Known, kind: Kind, lookup: Lookup, word: u64) {
+        known.levels.fill_split(kind, lookup, word);
+    }
+
+    #[inline(always)]
+    fn keep(&mut self, _pages: &mut MruPages, kind: Kind, lookup: Lookup, word: u64) {
         match kind {
             Kind::Fetch => self.of_fetches.renew(true, lookup, word),
             Kind::Load | Kind::Store => self.of_data.renew(true, lookup, word),
         }
     }
 
-    /// Like `fill`, with a leaf of any order.
-    #[inline(never)]
-    fn fill_in_turn(&mut self, kind: Kind, space: u16, page: u64, hit: Hit)
-        requires space { space < 64 }
-        requires page { page < 2 ^ 52 }
-        ensures { self.new ≡ tlb_filled kind (leaf_hit space page hit) self.old }
-    {
+    fn forget(&mut self, _pages: &mut MruPages) {
         self.of_fetches.forget();
         self.of_data.forget();
-        self.levels.fill(kind, space, page, hit);
-    }
-
-    /// Removes what a purge takes in all arrays at a change of this leaf, and gives how many leaves
-    /// left.
-    pub fn purge(&mut self, purge: Purge, leaf: Leaf) -> u64
-        requires { IsFit leaf }
-        ensures left { result + leaf_count self.new.arrays ≡ leaf_count self.old.arrays }
-        ensures after { self.new ≡ tlb_purged purge leaf self.old }
-    {
-        self.of_fetches.forget();
-        self.of_data.forget();
-        self.levels.purge(purge, leaf)
-    }
-
-    /// Removes the leaves that a fence reaches in all arrays, and gives how many left.
-    pub fn fence(&mut self, reach: Reach) -> u64
-        requires { InLimits reach }
-        ensures left { result + leaf_count self.new.arrays ≡ leaf_count self.old.arrays }
-        ensures after { self.new ≡ tlb_fenced reach self.old }
-    {
-        self.of_fetches.forget();
-        self.of_data.forget();
-        self.levels.fence(reach)
-    }
-
-    /// Whether there are no arrays: there are three.
-    #[inline(always)]
-    pub fn lacks_tlb(&self) -> bool
-        ensures never { result ≡ false }
-        ensures is { result ≡ (length self.now.arrays == 0) }
-    {
-        // Reading a field brings in the type's invariant.
-        let _levels = &self.levels;
-        false
-    }
-
-    /// The arrays with their counts.
-    #[inline(always)]
-    pub fn levels(&self) -> &Levels
-        ensures { result.now ≡ self.now }
-    {
-        &self.levels
     }
 }

@@ -3,8 +3,8 @@ use Rattle.xl_tlb.proofs.LookupLemmas.{known_filled}
 use Rattle.xl_tlb.proofs.any.AnyArray.fill_in.Goals as goal
 
 pub invariant_of-self : goal.invariant_of-self
-invariant_of-self g c =
+invariant_of-self c =
     let t = c.self.inside in
-    let is = c.fill_in_array-grown.ensures in
-    known_filled t.held _ t.large t.places c.args.lookup c.args.word c.fill_in_array-grown.result (array_in t.array) (array_in c.fill_in_array-grown.new.arrays) is c.self.invariant
+    let is = c.fill_at_width-grown.ensures in
+    known_filled t.held _ t.large t.places c.args.lookup c.args.word c.fill_at_width-grown.result (array_in t.array) (array_in c.fill_at_width-grown.new.arrays) is c.self.invariant
     (rw is.held (c.raise.ensures (leaves_in_sets (array_in t.array).sets) c.self.invariant.counts))

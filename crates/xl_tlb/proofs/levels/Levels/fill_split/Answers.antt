@@ -1,4 +1,4 @@
-use Rattle.xl_tlb.proofs.Common.{◌++◌, ◌∙◌, ◌≡◌, ap, AreSplit, drop, IsSplitFill, length, map, small_leaf, spec_of, sym, take}
+use Rattle.xl_tlb.proofs.Common.{◌++◌, ◌∙◌, ◌≡◌, ap, AreSplit, AtKind, drop, IsPairFill, length, map, small_leaf, spec_of, sym, take}
 use Rattle.xl_tlb.proofs.SplitLemmas.{split_filled}
 use Rattle.xl_tlb.proofs.TlbLemmas.{fill_after, fill_kept, written}
 use Rattle.xl_tlb.proofs.levels.Levels.fill_split.Goals as goal
@@ -8,7 +8,7 @@ invariant_of-self c =
     let t = c.self.inside in
     let s = c.args.lookup in
     let new = c.fill_split.new.arrays in
-    let fill : IsSplitFill c.args.kind s.space s.page c.args.word t.arrays.items new = rw c.deref_mut.ensures.value at c.fill_split.ensures in
+    let fill : AtKind (IsPairFill s.space s.page c.args.word) c.args.kind t.arrays.items new = rw c.deref_mut.ensures.value at c.fill_split.ensures in
     let split : AreSplit (map spec_of t.arrays.items) = rw (← c.self.view_is) at c.requires.split in
     let is = split_filled s c.args.word c.args.kind t.arrays.items new fill split in
     let back : take t.arrays.len (new ++ drop (length new) t.arrays.items) ≡ new =
@@ -20,7 +20,7 @@ returns c =
     let t = c.self.inside in
     let s = c.args.lookup in
     let new = c.fill_split.new.arrays in
-    let fill : IsSplitFill c.args.kind s.space s.page c.args.word t.arrays.items new = rw c.deref_mut.ensures.value at c.fill_split.ensures in
+    let fill : AtKind (IsPairFill s.space s.page c.args.word) c.args.kind t.arrays.items new = rw c.deref_mut.ensures.value at c.fill_split.ensures in
     let split : AreSplit (map spec_of t.arrays.items) = rw (← c.self.view_is) at c.requires.split in
     let is = split_filled s c.args.word c.args.kind t.arrays.items new fill split in
     let back : take t.arrays.len (new ++ drop (length new) t.arrays.items) ≡ new =

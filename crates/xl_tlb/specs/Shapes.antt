@@ -1,0 +1,173 @@
+-- The shapes that a row's arrays have, and what is known of them.
+use Rattle.std.specs.Prelude.{ℕ, zero, suc, ◌≡◌, ◌<◌, ◌%◌, Bool, true, List, [], ◌∷◌, map, None, Some}
+use Rattle.xl_model.specs.declared.address.Kind.{Kind}
+use Rattle.xl_model.specs.declared.address.Kind.TheVariants as kind
+use Rattle.xl_model.specs.declared.address.Order.TheVariants as order
+use Rattle.xl_model.specs.declared.row.Serves.TheVariants as serves
+use Rattle.xl_model.specs.declared.row.TlbSpec.{TlbSpec}
+use Rattle.xl_model.specs.LeafWords.{small_leaf}
+use Rattle.xl_model.specs.Tlb.{TlbArray, answer_of, array_filled, array_hit, takes_order}
+use Rattle.xl_tlb.specs.declared.levels.Answered.{Answered}
+use Rattle.xl_tlb.specs.declared.levels.Answered.TheVariants as answered
+use Rattle.xl_tlb.specs.declared.pair.Seen.{Seen}
+use Rattle.xl_tlb.specs.declared.pair.Seen.TheVariants as seen
+use Rattle.xl_tlb.specs.declared.newest.MruPages.{MruPages}
+use Rattle.xl_tlb.specs.Answers.{IsNowhere, IsWord}
+use Rattle.xl_tlb.specs.Arrays.{IsCommon}
+use Rattle.xl_tlb.specs.Fronts.{FirstLacks, FrontsStay, HasEights, IsFront, IsFrontHit, IsLargeTouch, IsTouch, LacksSmall}
+use Rattle.xl_tlb.specs.Known.{Knows}
+use Rattle.xl_tlb.specs.Tlbs.{TlbState, spec_of, leaf_replied, tlb_filled, tlb_looked}
+
+-- One of two arrays that are looked at together: it takes leaves of 4 KiB, and is a common one.
+pub record IsOfPair (s : TlbSpec) : Type 0 where
+  pub takes : takes_order s order.K4 ≡ true
+  pub common : IsCommon s
+
+-- The first of two arrays for one kind of access: it is of a lower level than the second, and its sets are a multiple of eight.
+pub record IsFirst (s second : TlbSpec) : Type 0 where
+  pub pair : IsOfPair s
+  pub below : s.level < second.level
+  pub eights : s.sets % 8 ≡ 0
+
+-- The first of these arrays serves fetches, the second data, the third all accesses; and that is the second one of both.
+pub record AreThree (f d s : TlbSpec) : Type 0 where
+  pub fetches : f.serves ≡ serves.Fetch
+  pub loads : d.serves ≡ serves.Data
+  pub all : s.serves ≡ serves.All
+  pub one : IsFirst f s
+  pub other : IsFirst d s
+  pub second : IsOfPair s
+
+-- There are three such arrays.
+abbrev pub AreSplit : List TlbSpec → Type 0
+AreSplit [] = ⊥
+AreSplit (f ∷ []) = ⊥
+AreSplit (f ∷ d ∷ []) = ⊥
+AreSplit (f ∷ d ∷ s ∷ []) = AreThree f d s
+AreSplit (f ∷ d ∷ s ∷ t ∷ rest) = ⊥
+
+-- The first array serves all accesses, and so does the second.
+pub record AreTwo (f s : TlbSpec) : Type 0 where
+  pub all : f.serves ≡ serves.All
+  pub both : s.serves ≡ serves.All
+  pub one : IsFirst f s
+  pub second : IsOfPair s
+
+-- There are two such arrays.
+abbrev pub AreJoint : List TlbSpec → Type 0
+AreJoint [] = ⊥
+AreJoint (f ∷ []) = ⊥
+AreJoint (f ∷ s ∷ []) = AreTwo f s
+AreJoint (f ∷ s ∷ t ∷ rest) = ⊥
+
+-- There is one array, which serves all accesses and takes leaves of 4 KiB.
+abbrev pub IsOne : List TlbSpec → Type 0
+IsOne [] = ⊥
+IsOne (s ∷ []) = (s.serves ≡ serves.All) × (takes_order s order.K4 ≡ true)
+IsOne (s ∷ t ∷ rest) = ⊥
+
+-- The number of the first array of accesses of this kind, where one serves all.
+abbrev pub all_first : Kind → ℕ
+all_first k = 0
+
+-- The same, where fetches and data have one each.
+abbrev pub first_of_kind : Kind → ℕ
+first_of_kind kind.Fetch = 0
+first_of_kind kind.Load = 1
+first_of_kind kind.Store = 1
+
+-- The array with this number alone.
+abbrev pub alone_at : ℕ → List TlbArray → List TlbArray
+alone_at i [] = []
+alone_at zero (a ∷ rest) = a ∷ []
+alone_at (suc i) (a ∷ rest) = alone_at i rest
+
+-- The result of a look in two arrays, and what it leaves of them.
+abbrev pub IsPairLook : ℕ → ℕ → Seen → TlbArray → TlbArray → TlbArray → TlbArray → Type 0
+IsPairLook space page (seen.First word) a b new after = IsTouch space page word a new × (after ≡ b)
+IsPairLook space page (seen.Second word) a b new after =
+    (((None ≡ array_hit a space page) × IsTouch space page word b after) × (new ≡ array_filled (small_leaf space page word) a)) × IsFrontHit space page word new
+IsPairLook space page (seen.Large word) a b new after = IsLargeTouch space page word a new × (after ≡ b)
+IsPairLook space page seen.Nowhere a b new after = ((None ≡ array_hit a space page) × (None ≡ array_hit b space page)) × ((new ≡ a) × (after ≡ b))
+IsPairLook space page seen.Unknown a b new after = LacksSmall space page a × ((new ≡ a) × (after ≡ b))
+
+-- Both arrays are filled with the leaf of 4 KiB with this word, which is the newest of its set of the first then.
+pub record IsPairFill (space page word : ℕ) (a b new after : TlbArray) : Type 0 where
+  pub first : new ≡ array_filled (small_leaf space page word) a
+  pub front : IsFrontHit space page word new
+  pub second : after ≡ array_filled (small_leaf space page word) b
+
+-- The two arrays that serve a kind of access change so, and the other one stays.
+pub data AtKind (P : TlbArray → TlbArray → TlbArray → TlbArray → Type 0) : Kind → List TlbArray → List TlbArray → Type 0 where
+  AtFetch : (f d s new after : TlbArray) (is : P f s new after) → AtKind P kind.Fetch (f ∷ d ∷ s ∷ []) (new ∷ d ∷ after ∷ [])
+  AtLoad : (f d s new after : TlbArray) (is : P d s new after) → AtKind P kind.Load (f ∷ d ∷ s ∷ []) (f ∷ new ∷ after ∷ [])
+  AtStore : (f d s new after : TlbArray) (is : P d s new after) → AtKind P kind.Store (f ∷ d ∷ s ∷ []) (f ∷ new ∷ after ∷ [])
+
+-- Both arrays change so.
+pub data AtBoth (P : TlbArray → TlbArray → TlbArray → TlbArray → Type 0) : List TlbArray → List TlbArray → Type 0 where
+  Both : (a s new after : TlbArray) (is : P a s new after) → AtBoth P (a ∷ s ∷ []) (new ∷ after ∷ [])
+
+-- The result of a look in one array, and what it leaves of it.
+abbrev pub IsAloneLook : ℕ → ℕ → Answered → TlbArray → TlbArray → Type 0
+IsAloneLook space page (answered.Word word) a new = IsTouch space page word a new
+IsAloneLook space page (answered.Large word) a new = IsLargeTouch space page word a new
+IsAloneLook space page answered.Nowhere a new = (None ≡ array_hit a space page) × (new ≡ a)
+IsAloneLook space page answered.Unknown a new = LacksSmall space page a × (new ≡ a)
+
+-- One array is filled with the leaf of 4 KiB with this word, which is the newest of its set then.
+pub record IsAloneFill (space page word : ℕ) (a new : TlbArray) : Type 0 where
+  pub first : new ≡ array_filled (small_leaf space page word) a
+  pub front : IsFrontHit space page word new
+
+-- The one array that there is changes so.
+pub data AtOne (P : TlbArray → TlbArray → Type 0) : List TlbArray → List TlbArray → Type 0 where
+  Alone : (a new : TlbArray) (is : P a new) → AtOne P (a ∷ []) (new ∷ [])
+
+-- The leaf of 4 KiB with this word is the newest of its set of the first array of this kind; other leaves in front stay there where the sets are a multiple of eight, and other first arrays stay.
+pub record IsKept (first : Kind → ℕ) (k : Kind) (space page word : ℕ) (old new : List TlbArray) : Type 0 where
+  pub front : IsFront space page word (alone_at (first k) new)
+  pub stays : HasEights (alone_at (first k) old) → FrontsStay (page % 8) (alone_at (first k) old) (alone_at (first k) new)
+  pub others : (j : Kind) → (first j ≡ first k → ⊥) → alone_at (first j) new ≡ alone_at (first j) old
+
+-- A leaf of 4 KiB with this word answers an access of this kind, and may be kept.
+pub record IsKnownWord (first : Kind → ℕ) (k : Kind) (space page word : ℕ) (old new : TlbState) : Type 0 where
+  pub found : Some (small_leaf space page word) ≡ leaf_replied (answer_of k old.arrays space page)
+  pub after : new ≡ tlb_looked k space page old
+  pub kept : IsKept first k space page word old.arrays new.arrays
+
+-- What each answer of a look in line says; where a larger leaf may answer, nothing changes.
+abbrev pub IsKnownAnswer : (Kind → ℕ) → Kind → ℕ → ℕ → Answered → TlbState → TlbState → Type 0
+IsKnownAnswer first k space page (answered.Word word) old new = IsKnownWord first k space page word old new
+IsKnownAnswer first k space page (answered.Large word) old new = IsWord k space page word old new
+IsKnownAnswer first k space page answered.Nowhere old new = IsNowhere k space page old new
+IsKnownAnswer first k space page answered.Unknown old new = FirstLacks space page (alone_at (first k) old.arrays) × (new ≡ old)
+
+-- The same, where what is found is kept.
+abbrev pub IsAnswered : (Kind → ℕ) → Kind → ℕ → ℕ → Answered → TlbState → TlbState → Type 0
+IsAnswered first k space page (answered.Word word) old new = IsWord k space page word old new
+IsAnswered first k space page (answered.Large word) old new = IsWord k space page word old new
+IsAnswered first k space page answered.Nowhere old new = IsNowhere k space page old new
+IsAnswered first k space page answered.Unknown old new = FirstLacks space page (alone_at (first k) old.arrays) × (new ≡ old)
+
+-- The arrays that serve an access of this kind are filled with a leaf of 4 KiB, which may be kept.
+pub record IsKnownFill (first : Kind → ℕ) (k : Kind) (space page word : ℕ) (old new : TlbState) : Type 0 where
+  pub after : new ≡ tlb_filled k (small_leaf space page word) old
+  pub kept : IsKept first k space page word old.arrays new.arrays
+
+-- What is always so of one array.
+pub record FitsOne (eights : Bool) (pages : MruPages) (arrays : List TlbArray) : Type 0 where
+  pub one : IsOne (map spec_of arrays)
+  pub by_eight : eights ≡ true → HasEights arrays
+  pub knows : Knows pages (alone_at 0 arrays)
+
+-- What is always so of a first array and a second one.
+pub record FitsJoint (pages : MruPages) (arrays : List TlbArray) : Type 0 where
+  pub joint : AreJoint (map spec_of arrays)
+  pub knows : Knows pages (alone_at 0 arrays)
+
+-- What is always so of arrays for fetches and for data over one for all.
+pub record FitsSplit (of_fetches of_data pages : MruPages) (arrays : List TlbArray) : Type 0 where
+  pub split : AreSplit (map spec_of arrays)
+  pub none : Knows pages []
+  pub fetches : Knows of_fetches (alone_at 0 arrays)
+  pub loads : Knows of_data (alone_at 1 arrays)

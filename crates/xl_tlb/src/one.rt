@@ -1,0 +1,165 @@
+//! One array that serves all accesses, of any width.
+//!
+//! Taken where it takes leaves of 4 KiB. It is looked at in line, by its width: saves the look in
+//! turn.
+
+ghost use Rattle.std.specs.Prelude.{◌≡◌, true, map};
+ghost use Rattle.xl_model.specs.declared.address.Kind.{Kind as KindOf};
+ghost use Rattle.xl_model.specs.declared.address.Order.TheVariants as order_of;
+ghost use Rattle.xl_model.specs.Tlb.{takes_order};
+ghost use Rattle.xl_tlb.specs.Fronts.{FirstLacks, HasEights, LacksSmall};
+ghost use Rattle.xl_tlb.specs.Shapes.{AtOne, FitsOne, IsAloneFill, IsAloneLook, IsKnownAnswer, IsKnownFill, IsOne, all_first, alone_at};
+ghost use Rattle.xl_tlb.specs.Lookup.{IsLookup};
+ghost use Rattle.xl_tlb.specs.Tlbs.{spec_of};
+
+use crate::any::AnyArray;
+use crate::levels::{Answered, Levels};
+use crate::lookup::Lookup;
+use crate::newest::MruPages;
+use crate::pair::first_and_rest;
+use crate::shape::{Known, Shape};
+use xl_model::{Kind, Order};
+
+/// Whether the sets of the one array are a multiple of eight. Where they aren't, one page is known
+/// at most.
+#[derive(Drop)]
+pub(crate) struct One {
+    pub eights: bool,
+}
+
+/// Whether this is one such array.
+pub(crate) fn is_one(arrays: &[AnyArray]) -> bool
+    ensures { result ≡ true → IsOne (map spec_of arrays.now) }
+{
+    let [first] = arrays else {
+        return false;
+    };
+    first.serves_all() && first.takes_small()
+}
+
+/// Whether the sets of the first array are a multiple of eight.
+pub(crate) fn has_eights(arrays: &[AnyArray]) -> bool
+    ensures { result ≡ true → HasEights arrays.now }
+{
+    let Some((first, _rest)) = arrays.split_first() else {
+        return false;
+    };
+    first.has_eights()
+}
+
+/// Looks for the leaf of 4 KiB that is sought in an array; with `above`, where it lacks that, for a
+/// larger one of the page.
+#[inline(always)]
+fn look_first(first: &mut AnyArray, above: bool, lookup: Lookup) -> Answered
+    requires lookup { IsLookup order_of.K4 lookup }
+    requires takes { takes_order first.old.spec order_of.K4 ≡ true }
+    requires lacks { above ≡ true → LacksSmall lookup.space lookup.page first.old }
+    ensures { IsAloneLook lookup.space lookup.page result first.old first.new }
+{
+    if above {
+        return match first.touch_large(false, lookup.space, lookup.page) {
+            Some(word) => Answered::Large { word },
+            None => Answered::Nowhere,
+        };
+    }
+    let set = first.set_of(lookup);
+    if let Some(word) = first.touch_in(set, lookup, Order::K4) {
+        return Answered::Word { word };
+    }
+    if first.has_large() {
+        return Answered::Unknown;
+    }
+    Answered::Nowhere
+}
+
+/// Like `look_first`, with the one array.
+#[inline(always)]
+fn look_alone(arrays: &mut [AnyArray], above: bool, lookup: Lookup) -> Answered
+    requires lookup { IsLookup order_of.K4 lookup }
+    requires one { IsOne (map spec_of arrays.old) }
+    requires lacks { above ≡ true → FirstLacks lookup.space lookup.page (alone_at 0 arrays.old) }
+    ensures { AtOne (IsAloneLook lookup.space lookup.page result) arrays.old arrays.new }
+{
+    let (first, _none) = first_and_rest(arrays);
+    look_first(first, above, lookup)
+}
+
+/// Fills the array with the leaf of 4 KiB that is sought.
+#[inline(always)]
+fn fill_alone(arrays: &mut [AnyArray], lookup: Lookup, word: u64)
+    requires lookup { IsLookup order_of.K4 lookup }
+    requires one { IsOne (map spec_of arrays.old) }
+    ensures { AtOne (IsAloneFill lookup.space lookup.page word) arrays.old arrays.new }
+{
+    let (first, _none) = first_and_rest(arrays);
+    let set = first.set_of(lookup);
+    first.fill_in(set, lookup, word);
+}
+
+impl Levels {
+    /// Looks in the array for the leaf of 4 KiB that is sought, and gives its word: it is the
+    /// newest of its set then.
+    #[inline(always)]
+    fn look_one(&mut self, above: bool, lookup: Lookup) -> Answered
+        requires lookup { IsLookup order_of.K4 lookup }
+        requires one { IsOne (map spec_of self.old.arrays) }
+        requires lacks { above ≡ true
+            → FirstLacks lookup.space lookup.page (alone_at 0 self.old.arrays) }
+        ensures { (k : KindOf) →
+            IsKnownAnswer all_first k lookup.space lookup.page result self.old self.new }
+    {
+        match look_alone(&mut self.arrays, above, lookup) {
+            Answered::Word { word } => {
+                self.hits[0] = self.hits[0].wrapping_add(1);
+                Answered::Word { word }
+            }
+            Answered::Large { word } => {
+                self.hits[0] = self.hits[0].wrapping_add(1);
+                Answered::Large { word }
+            }
+            Answered::Nowhere => {
+                self.misses[0] = self.misses[0].wrapping_add(1);
+                Answered::Nowhere
+            }
+            Answered::Unknown => Answered::Unknown,
+        }
+    }
+
+    /// Fills the array with the leaf of 4 KiB that is sought.
+    #[inline(always)]
+    fn fill_one(&mut self, lookup: Lookup, word: u64)
+        requires lookup { IsLookup order_of.K4 lookup }
+        requires one { IsOne (map spec_of self.old.arrays) }
+        ensures { (k : KindOf) →
+            IsKnownFill all_first k lookup.space lookup.page word self.old self.new }
+    {
+        fill_alone(&mut self.arrays, lookup, word);
+        self.fills = self.fills.wrapping_add(1);
+    }
+}
+
+impl Shape for One {
+    ghost first = { all_first };
+
+    ghost fits = { λ o pages arrays. FitsOne o.eights pages arrays };
+
+    #[inline(always)]
+    fn look_in(&self, known: &mut Known, _kind: Kind, above: bool, lookup: Lookup) -> Answered {
+        known.levels.look_one(above, lookup)
+    }
+
+    #[inline(always)]
+    fn fill_in(&self, known: &mut Known, _kind: Kind, lookup: Lookup, word: u64) {
+        known.levels.fill_one(lookup, word);
+    }
+
+    #[inline(always)]
+    fn keep(&mut self, pages: &mut MruPages, _kind: Kind, lookup: Lookup, word: u64) {
+        pages.renew(self.eights, lookup, word);
+    }
+
+    #[inline(always)]
+    fn forget(&mut self, pages: &mut MruPages) {
+        pages.forget();
+    }
+}
