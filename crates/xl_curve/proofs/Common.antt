@@ -8,7 +8,7 @@ pub use Rattle.std.specs.Cmp.{first_so, second_so}
 pub use Rattle.std.specs.Fn.{FnReturnsAt}
 pub use Rattle.std.specs.List.{list_all, range_with_len, remove, sum}
 pub use Rattle.std.specs.Prelude.{IfSome}
-pub use Rattle.xl_curve_model.proofs.SameLeafLemmas.{found_same, leaf_same, order_same}
+pub use Rattle.xl_curve_model.proofs.SameLeafLemmas.{found_same, leaf_same, leaf_self, order_same}
 pub use Rattle.xl_curve_model.specs.Curves.{HitCurve, hits_of, looked_for, opening_point, Point, point_accessed, point_without, same_leaf, spec_of_width}
 unfoldable pub use Rattle.xl_curve_model.specs.Curves.{curve_accessed, curve_missed, curve_without, hits_at, opening_curve}
 pub use Rattle.xl_model.specs.Addresses.{level_of, order_at, pages_of, same_order}
@@ -21,7 +21,7 @@ pub use Rattle.xl_model.specs.declared.leaf.Leaf.{Leaf}
 pub use Rattle.xl_recency.specs.Lists.{IsTest}
 pub use Rattle.xl_tlb.proofs.DropLemmas.{each_order}
 pub use Rattle.xl_tlb.specs.Arrays.{covers_anywhere, covers_anywhere_as, IsFit}
-pub use Rattle.xl_curve.specs.Places.{AreMarks, AreRanks, AreThinned, at_rank, distance, further, gap, gives_way, HasRank, held, hole_where, is_vacant, IsFirst, IsGap, IsNamed, IsNeither, IsSameOrHole, IsStack, IsThinned, mark_of, mark_unless, moved, place_without, places_of, same_words, shifted, vacated}
+pub use Rattle.xl_curve.specs.Places.{AreApart, AreFewer, AreMarks, AreRanks, AreThinned, at_rank, distance, further, gap, gives_way, guided, HasRank, held, hole_where, is_vacant, IsFirst, IsGap, IsGuide, IsNamed, IsNeither, IsSameOrHole, IsSolid, IsStack, IsThinned, mark_of, mark_unless, moved, place_without, places_of, same_words, shifted, vacated}
 unfoldable pub use Rattle.xl_curve.specs.Places.{in_turn, leaf_in, place_of}
 pub use Rattle.xl_curve.specs.Views.{counted, hits_below, is_placed, IsCurve, IsRemovedIn, point_at, removed, set_of, with_front, with_removed}
 unfoldable pub use Rattle.xl_curve.specs.Views.{curve_of}

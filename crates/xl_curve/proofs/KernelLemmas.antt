@@ -287,16 +287,20 @@ last_goes q leaf old new n same some e f =
 
 -- ---- marks
 
+-- Places of the same leaf have the same mark.
+pub same_marks : (leaf p : Place) → is_vacant leaf ≡ false → is_vacant p ≡ false → same_leaf (leaf_in leaf) (leaf_in p) ≡ true → mark_of p ≡ mark_of leaf
+same_marks leaf p solid filled f =
+    let t : (p.tag == leaf.tag) ≡ true = first_so (p.tag == leaf.tag) (same_words leaf.word p.word) (sym (same_parts leaf p) ∙ f) in
+    let same : p.tag ≡ leaf.tag = grind (arith, nat_tests) in
+    ap (λ (b : Bool). mark_unless b p.tag) filled ∙ ap (λ (n : ℕ). mark_unless false n) same ∙ sym (ap (λ (b : Bool). mark_unless b leaf.tag) solid)
+
 -- A place with another mark than a leaf's has another leaf.
 marked_other : (leaf p : Place) → is_vacant leaf ≡ false → is_vacant p ≡ false → mark_of p ≢ mark_of leaf → same_leaf (leaf_in leaf) (leaf_in p) ≡ false
 marked_other leaf p solid filled other = go (same_leaf (leaf_in leaf) (leaf_in p)) refl
   where
     go : (s : Bool) → same_leaf (leaf_in leaf) (leaf_in p) ≡ s → same_leaf (leaf_in leaf) (leaf_in p) ≡ false
     go false f = f
-    go true f =
-        let t : (p.tag == leaf.tag) ≡ true = first_so (p.tag == leaf.tag) (same_words leaf.word p.word) (sym (same_parts leaf p) ∙ f) in
-        let same : p.tag ≡ leaf.tag = grind (arith, nat_tests) in
-        absurd (other (ap (λ (b : Bool). mark_unless b p.tag) filled ∙ ap (λ (n : ℕ). mark_unless false n) same ∙ sym (ap (λ (b : Bool). mark_unless b leaf.tag) solid)))
+    go true f = absurd (other (same_marks leaf p solid filled f))
 
 -- A place with another mark than a leaf's and a hole's gives way to the leaf.
 other_gives : (leaf p : Place) → is_vacant leaf ≡ false → IsNeither (mark_of leaf) 255 (mark_of p) → gives_way (same_leaf (leaf_in leaf)) (place_of p) ≡ true
@@ -324,7 +328,7 @@ pass_gaps q ps (suc n) from to e l gives =
 
 module _ (marks : List ℕ) (places : List Place) (are : AreMarks marks places) where
   -- the mark of a place
-  mark_read : (k : ℕ) (d : Place) → k < length places → get_or marks k 0 ≡ mark_of (get_or places k d)
+  pub mark_read : (k : ℕ) (d : Place) → k < length places → get_or marks k 0 ≡ mark_of (get_or places k d)
   mark_read k d l = ap (λ (ms : List ℕ). get_or ms k 0) are ∙ get_or-map mark_of places k d 0 l
 
   pub mark_written : (at mark : ℕ) (p : Place) → mark ≡ mark_of p → AreMarks (set marks at mark) (set places at p)
@@ -451,6 +455,10 @@ unnamed space first o named p n other = go (is_vacant p) (p.tag == named.tag) re
     go false true e f =
         let same : p.tag ≡ named.tag = grind (arith, nat_tests) in
         absurd (other (ap (λ (b : Bool). mark_unless b p.tag) e ∙ ap (λ (k : ℕ). mark_unless false k) same ∙ sym (ap (λ (b : Bool). mark_unless b named.tag) n.solid)))
+
+pub turned : (b : Bool) → not b ≡ true → b ≡ false
+turned true e = absurd (cc)
+turned false e = refl
 
 -- Where all marks are other ones, no leaf of the name is removed.
 pub none_named : (space first : ℕ) (o : Order) (named : Place) (marks : List ℕ) (places : List Place) → IsNamed space first o named → AreMarks marks places

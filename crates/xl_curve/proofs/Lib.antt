@@ -1,5 +1,6 @@
 mod Common
 mod CurveLemmas
+mod GuideLemmas
 mod KernelLemmas
 mod PlaceLemmas
 mod RankLemmas

@@ -1,5 +1,5 @@
 -- Places by the ranks of their slots.
-use Rattle.xl_curve.proofs.Common.{if◌then◌else◌, ◌++◌, ◌+◌, ◌-◌, ◌<◌, ◌==◌, ◌∙◌, ◌∷◌, ◌≡◌, ◌≢◌, ◌≤◌, [], ap, AreRanks, AreThinned, arith, at_rank, Bool, drop, drop-set-lt, ext_get_or, false, fill_by_all, first_so, get_or, get_or-append_right, get_or-drop, get_or-map, get_or-map-range_with_len, get_or-replicate, get_or-set_other, get_or-set_same, get_or-take, get_or_append_left, HasRank, in_turn, IsFirst, IsSameOrHole, IsThinned, length, length-append, length-drop, length-map-range_with_len, length-replicate, length-set, length-take-le, List, list_all, map, moved, nat_lt, nat_tests, None, Option, range_with_len, refl, remove, replicate, second_so, set, suc, sym, take, take-set, true, zero, ℕ}
+use Rattle.xl_curve.proofs.Common.{if◌then◌else◌, ◌++◌, ◌+◌, ◌-◌, ◌<◌, ◌==◌, ◌∙◌, ◌∷◌, ◌≡◌, ◌≢◌, ◌≤◌, [], ap, AreApart, AreRanks, AreThinned, arith, at_rank, Bool, drop, drop-set-lt, ext_get_or, false, fill_by_all, first_so, get_or, get_or-append_right, get_or-drop, get_or-map, get_or-map-range_with_len, get_or-replicate, get_or-set_other, get_or-set_same, get_or-take, get_or_append_left, HasRank, in_turn, IsFirst, IsSameOrHole, IsThinned, length, length-append, length-drop, length-map-range_with_len, length-replicate, length-set, length-take-le, List, list_all, map, moved, nat_lt, nat_tests, None, Option, range_with_len, refl, remove, replicate, second_so, set, suc, sym, take, take-set, true, zero, ℕ}
 
 both : (a b : Bool) → (a ≡ true → b ≡ true) → (b ≡ true → a ≡ true) → a ≡ b
 both true b f g = sym (f refl)
@@ -126,6 +126,29 @@ pub ranks_moved : (rank : ℕ) (ranks : List ℕ) → rank < 64 → length ranks
 ranks_moved rank ranks l same are = λ k m.
     let h = are (back rank k) (back_below rank k l m) in
     record { slot = h.slot; within = h.within; is = get_or-map (moved rank) ranks h.slot 0 0 (omega (arith, h.within)) ∙ ap (moved rank) h.is ∙ moved_there rank k }
+
+-- Slots of different ranks have different ranks afterwards.
+moved_same : (rank a b : ℕ) → moved rank a ≡ moved rank b → a ≡ b
+moved_same rank a b e =
+    let k = moved rank b in
+    let t : (moved rank a == k) ≡ true = grind (arith, nat_tests) in
+    let u : (moved rank b == k) ≡ true = grind (arith, nat_tests) in
+    let v : (a == back rank k) ≡ true = sym (moved_back rank a k) ∙ t in
+    let w : (b == back rank k) ≡ true = sym (moved_back rank b k) ∙ u in
+    let x : a ≡ back rank k = grind (arith, nat_tests) in
+    let y : b ≡ back rank k = grind (arith, nat_tests) in
+    x ∙ sym y
+
+pub apart_moved : (rank : ℕ) (ranks : List ℕ) → length ranks ≡ 64 → AreApart ranks → AreApart (map (moved rank) ranks)
+apart_moved rank ranks same apart = λ i j l m e.
+    apart i j l m
+    (moved_same rank (get_or ranks i 0) (get_or ranks j 0)
+    (sym (get_or-map (moved rank) ranks i 0 0 (omega arith)) ∙ e ∙ get_or-map (moved rank) ranks j 0 0 (omega arith)))
+
+-- A slot of a rank is the first.
+pub slot_of_rank : (rank slot : ℕ) (ranks : List ℕ) → AreApart ranks → slot < 64 → get_or ranks slot 0 ≡ rank → IsFirst rank slot ranks
+slot_of_rank rank slot ranks apart l is =
+    record { is = is; others = λ k m h. let same : k ≡ slot = apart k slot (omega arith) l (h ∙ sym is) in omega arith }
 
 remove_set : {A : Type 0} (xs : List A) (k : ℕ) (x : A) → remove (set xs k x) k ≡ remove xs k
 remove_set {A} xs k x =

@@ -1,5 +1,5 @@
 -- A recency list with holes: one list of places that represents the lists of all widths.
-use Rattle.std.specs.Prelude.{◌≡◌, ◌≢◌, ℕ, zero, suc, ◌+◌, ◌/◌, ◌%◌, ◌==◌, ◌<◌, nat_lt, Bool, ◌&&◌, true, false, not, if◌then◌else◌, List, [], ◌∷◌, map, slice_index_or, Option, None, Some}
+use Rattle.std.specs.Prelude.{◌≡◌, ◌≢◌, ℕ, zero, suc, ◌+◌, ◌/◌, ◌%◌, ◌==◌, ◌<◌, ◌≤◌, nat_lt, Bool, ◌&&◌, true, false, not, if◌then◌else◌, List, [], ◌∷◌, map, slice_index_or, Option, None, Some}
 use Rattle.std.specs.List.{list_all, range_with_len}
 use Rattle.xl_model.specs.declared.address.Order.{Order}
 use Rattle.xl_model.specs.declared.leaf.Leaf.{Leaf}
@@ -72,10 +72,36 @@ pub record HasRank (ranks : List ℕ) (rank : ℕ) : Type 0 where
 abbrev pub AreRanks : List ℕ → Type 0
 AreRanks ranks = (rank : ℕ) → rank < 64 → HasRank ranks rank
 
+-- No two slots have the same rank.
+abbrev pub AreApart : List ℕ → Type 0
+AreApart ranks = (i j : ℕ) → i < 64 → j < 64 → slice_index_or ranks i 0 ≡ slice_index_or ranks j 0 → i ≡ j
+
 -- The marks and ranks of some slots.
 pub record IsStack (marks ranks : List ℕ) (slots : List Place) : Type 0 where
   pub marked : AreMarks marks slots
   pub ranked : AreRanks ranks
+  pub apart : AreApart ranks
+
+-- A slot has this place.
+abbrev pub IsAt : ℕ → Place → List Place → Type 0
+IsAt slot place slots = slice_index_or slots slot (record { tag = 0; word = 0 }) ≡ place
+
+-- The slot that a guide has for a mark.
+abbrev pub guided : List ℕ → ℕ → ℕ
+guided guide mark = slice_index_or guide mark 0 % 64
+
+-- For the mark of each leaf the guide has the slot of the least rank that has the mark.
+abbrev pub IsGuide : List ℕ → List ℕ → List ℕ → Type 0
+IsGuide guide marks ranks = (slot : ℕ) → slot < 64 → slice_index_or marks slot 0 ≢ 255
+    → slice_index_or ranks (guided guide (slice_index_or marks slot 0)) 0 ≤ slice_index_or ranks slot 0
+
+-- No hole has a rank below this one.
+abbrev pub IsSolid : ℕ → List ℕ → List ℕ → Type 0
+IsSolid rank marks ranks = (slot : ℕ) → slot < 64 → slice_index_or marks slot 0 ≡ 255 → rank ≤ slice_index_or ranks slot 0
+
+-- Each mark is as it was, or a hole's.
+abbrev pub AreFewer : List ℕ → List ℕ → Type 0
+AreFewer old new = (slot : ℕ) → slot < 64 → slice_index_or new slot 0 ≢ 255 → slice_index_or new slot 0 ≡ slice_index_or old slot 0
 
 -- A rank after the slot of this rank came to the front: those in front of it moved on by one.
 abbrev pub moved : ℕ → ℕ → ℕ

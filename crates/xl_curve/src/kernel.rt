@@ -3,7 +3,7 @@
 ghost use Rattle.std.specs.Prelude.{◌≡◌, ◌≢◌, ℕ, ◌<◌, ◌≤◌, ◌++◌, ◌∷◌, true, false, Some, take, drop, length, map, slice_index, IfNone, IfSome};
 ghost use Rattle.std.specs.Fn.{FnReturnsAt};
 ghost use Rattle.std.specs.List.{remove};
-ghost use Rattle.xl_curve.specs.Places.{AreMarks, AreRanks, AreThinned, IsFirst, IsGap, IsNamed, IsNeither, IsSameOrHole, IsStack, distance, further, gap, in_turn, is_vacant, leaf_in, moved, place_of, place_without, places_of, shifted, vacated};
+ghost use Rattle.xl_curve.specs.Places.{AreApart, AreFewer, AreMarks, AreRanks, AreThinned, IsAt, IsFirst, IsGap, IsGuide, IsNamed, IsNeither, IsSameOrHole, IsSolid, IsStack, distance, further, gap, guided, in_turn, is_vacant, leaf_in, moved, place_of, place_without, places_of, shifted, vacated};
 ghost use Rattle.xl_curve_model.specs.Curves.{same_leaf};
 ghost use Rattle.xl_model.specs.Mapping.{is_leaf};
 ghost use Rattle.xl_model.specs.declared.address.Order.{Order};
@@ -15,9 +15,13 @@ use xl_model::Leaf;
 /// How many places there are: the greatest width.
 pub(crate) const WIDEST: usize = 64;
 
+/// How many marks there are.
+pub(crate) const MARKS: usize = 256;
+
 /// Each slot's own number as its rank.
 pub(crate) fn ranks_in_turn() -> [u8; WIDEST]
-    ensures { AreRanks result }
+    ensures ranks { AreRanks result }
+    ensures apart { AreApart result }
 {
     let mut ranks = [0; WIDEST];
     for slot in 0..64 {
@@ -79,7 +83,29 @@ fn first_marked(marks: &[u8; WIDEST], ranks: &[u8; WIDEST], mark: u8, other: u8,
     least
 }
 
-/// Whether no slot has the leaf of a name, where that is soon told: none has its mark.
+/// Whether a slot has a mark. All are looked at, sixteen at a time.
+#[inline(always)]
+fn is_marked(marks: &[u8; WIDEST], mark: u8) -> bool
+    ensures { result ≡ false → (k : ℕ) → k < 64 → slice_index marks.now k ≢ mark }
+{
+    let mut found = false;
+    for slot in 0..WIDEST {
+        found = if marks[slot] == mark { true } else { found };
+    }
+    found
+}
+
+/// The slot that the guide has for a mark: of the slots of this mark the one of the least rank, if
+/// there is one.
+#[inline(always)]
+fn slot_guided(guide: &[u8; MARKS], mark: u8) -> usize
+    ensures within { result < 64 }
+    ensures value { result ≡ guided guide.now mark }
+{
+    (guide[mark as usize] % 64) as usize
+}
+
+/// Whether no slot has the leaf of a name, by marks alone.
 #[inline(always)]
 pub(crate) fn lacks(marks: &[u8; WIDEST], _slots: &[Place; WIDEST], named: Place) -> bool
     requires { AreMarks marks.now _slots.now }
@@ -87,7 +113,7 @@ pub(crate) fn lacks(marks: &[u8; WIDEST], _slots: &[Place; WIDEST], named: Place
         → map (place_without (is_leaf space first o)) (places_of _slots.now)
         ≡ places_of _slots.now }
 {
-    first_of(marks, named.mark()) == 64
+    !is_marked(marks, named.mark())
 }
 
 /// A rank after the slot of this rank came to the front: those in front of it moved on by one.
@@ -160,6 +186,7 @@ fn vacate(
     ensures distance { result ≡ further from (distance (same_leaf (leaf_in leaf))
         (drop from (in_turn ranks.now (places_of slots.old)))) }
     ensures kept { IsStack marks.new ranks.now slots.new }
+    ensures fewer { AreFewer marks.old marks.new }
 {
     let mark = leaf.mark();
     let mut rank = first_marked(marks, ranks, mark, mark, from);
@@ -181,6 +208,7 @@ fn fill(
     marks: &mut [u8; WIDEST],
     ranks: &mut [u8; WIDEST],
     slots: &mut [Place; WIDEST],
+    guide: &mut [u8; MARKS],
     slot: usize,
     leaf: Place,
 )
@@ -188,13 +216,19 @@ fn fill(
     requires within { (slot < 64) × (slice_index ranks.old slot < 64) }
     requires solid { is_vacant leaf ≡ false }
     requires kept { IsStack marks.old ranks.old slots.old }
+    requires guided { IsGuide guide.old marks.old ranks.old }
     ensures places { in_turn ranks.new (places_of slots.new) ≡ Some (leaf_in leaf)
         ∷ remove (in_turn ranks.old (places_of slots.old)) (slice_index ranks.old slot) }
     ensures kept { IsStack marks.new ranks.new slots.new }
+    ensures guided { IsGuide guide.new marks.new ranks.new }
+    ensures solid { (k : ℕ) → slice_index ranks.old slot < k
+        → IsSolid k marks.old ranks.old → IsSolid k marks.new ranks.new }
 {
     let rank = ranks[slot];
-    marks[slot] = leaf.mark();
+    let mark = leaf.mark();
+    marks[slot] = mark;
     slots[slot] = leaf;
+    guide[mark as usize] = slot as u8;
     move_to_front(ranks, rank);
 }
 
@@ -205,52 +239,175 @@ fn close_gap(
     marks: &mut [u8; WIDEST],
     ranks: &mut [u8; WIDEST],
     slots: &mut [Place; WIDEST],
+    guide: &mut [u8; MARKS],
     slot: usize,
     leaf: Place,
 ) -> Option<usize>
     requires solid { is_vacant leaf ≡ false }
     requires gap { IsGap (same_leaf (leaf_in leaf)) slot ranks.old slots.old }
     requires kept { IsStack marks.old ranks.old slots.old }
+    requires guided { IsGuide guide.old marks.old ranks.old }
     ensures moved { in_turn ranks.new (places_of slots.new) ≡ shifted (same_leaf (leaf_in leaf))
         (leaf_in leaf) (in_turn ranks.old (places_of slots.old)) }
     ensures distance { result ≡
         distance (same_leaf (leaf_in leaf)) (in_turn ranks.old (places_of slots.old)) }
     ensures kept { IsStack marks.new ranks.new slots.new }
+    ensures guided { IsGuide guide.new marks.new ranks.new }
 {
     let rank = ranks[slot];
     if slots[slot].is_hole() {
-        fill(marks, ranks, slots, slot, leaf);
+        fill(marks, ranks, slots, guide, slot, leaf);
         return vacate(marks, ranks, slots, rank + 1, leaf);
     }
+    guide[leaf.mark() as usize] = slot as u8;
     move_to_front(ranks, rank);
     Some(rank as usize)
 }
 
-/// Puts a leaf in front, and gives the distance at which it was. The last place gives way, where
-/// none is a hole and none has the leaf.
+/// A rank below which no slot is a hole: the first hole's, or 64.
 #[inline(always)]
-pub(crate) fn bring_in_front(
+pub(crate) fn first_hole(marks: &[u8; WIDEST], ranks: &[u8; WIDEST]) -> u8
+    ensures front { IsSolid result marks.now ranks.now }
+    ensures most { result ≤ 64 }
+{
+    first_marked(marks, ranks, HOLE_MARK, HOLE_MARK, 0)
+}
+
+/// Puts a leaf in front, where none is a hole and none has the leaf: the last place gives way.
+#[inline(always)]
+fn bring_anew(
     marks: &mut [u8; WIDEST],
     ranks: &mut [u8; WIDEST],
     slots: &mut [Place; WIDEST],
+    guide: &mut [u8; MARKS],
+    leaf: Place,
+)
+    requires solid { is_vacant leaf ≡ false }
+    requires kept { IsStack marks.old ranks.old slots.old }
+    requires guided { IsGuide guide.old marks.old ranks.old }
+    requires none { gap (same_leaf (leaf_in leaf)) (in_turn ranks.old (places_of slots.old)) ≡ None }
+    ensures moved { in_turn ranks.new (places_of slots.new) ≡ take 64 (shifted
+        (same_leaf (leaf_in leaf)) (leaf_in leaf) (in_turn ranks.old (places_of slots.old))) }
+    ensures distance { None ≡
+        distance (same_leaf (leaf_in leaf)) (in_turn ranks.old (places_of slots.old)) }
+    ensures kept { IsStack marks.new ranks.new slots.new }
+    ensures guided { IsGuide guide.new marks.new ranks.new }
+    ensures full { IsSolid 64 marks.old ranks.old → IsSolid 64 marks.new ranks.new }
+{
+    let last = slot_at(ranks, 63);
+    fill(marks, ranks, slots, guide, last, leaf);
+}
+
+/// Does what `bring_in_front` does, place after place.
+fn bring_in_turn(
+    marks: &mut [u8; WIDEST],
+    ranks: &mut [u8; WIDEST],
+    slots: &mut [Place; WIDEST],
+    guide: &mut [u8; MARKS],
     leaf: Place,
 ) -> Option<usize>
     requires solid { is_vacant leaf ≡ false }
     requires kept { IsStack marks.old ranks.old slots.old }
+    requires guided { IsGuide guide.old marks.old ranks.old }
     ensures moved { in_turn ranks.new (places_of slots.new) ≡ take 64 (shifted
         (same_leaf (leaf_in leaf)) (leaf_in leaf) (in_turn ranks.old (places_of slots.old))) }
     ensures distance { result ≡
         distance (same_leaf (leaf_in leaf)) (in_turn ranks.old (places_of slots.old)) }
     ensures kept { IsStack marks.new ranks.new slots.new }
+    ensures guided { IsGuide guide.new marks.new ranks.new }
 {
     match first_gap(marks, ranks, slots, leaf) {
-        Some(slot) => close_gap(marks, ranks, slots, slot, leaf),
+        Some(slot) => close_gap(marks, ranks, slots, guide, slot, leaf),
         None => {
-            let last = slot_at(ranks, 63);
-            fill(marks, ranks, slots, last, leaf);
+            bring_anew(marks, ranks, slots, guide, leaf);
             None
         }
     }
+}
+
+/// Does what `bring_in_front` does, where the guide's slot doesn't have the leaf, or a hole may be
+/// in front of it. Out of line, since most accesses hit.
+#[inline(never)]
+fn bring_apart(
+    marks: &mut [u8; WIDEST],
+    ranks: &mut [u8; WIDEST],
+    slots: &mut [Place; WIDEST],
+    guide: &mut [u8; MARKS],
+    solid: &mut u8,
+    leaf: Place,
+) -> Option<usize>
+    requires solid { is_vacant leaf ≡ false }
+    requires kept { IsStack marks.old ranks.old slots.old }
+    requires guided { IsGuide guide.old marks.old ranks.old }
+    requires front { IsSolid solid.old marks.old ranks.old }
+    requires most { solid.old ≤ 64 }
+    ensures moved { in_turn ranks.new (places_of slots.new) ≡ take 64 (shifted
+        (same_leaf (leaf_in leaf)) (leaf_in leaf) (in_turn ranks.old (places_of slots.old))) }
+    ensures distance { result ≡
+        distance (same_leaf (leaf_in leaf)) (in_turn ranks.old (places_of slots.old)) }
+    ensures kept { IsStack marks.new ranks.new slots.new }
+    ensures guided { IsGuide guide.new marks.new ranks.new }
+    ensures front { IsSolid solid.new marks.new ranks.new }
+    ensures most { solid.new ≤ 64 }
+{
+    if *solid == 64 && !is_marked(marks, leaf.mark()) {
+        bring_anew(marks, ranks, slots, guide, leaf);
+        return None;
+    }
+    let distance = bring_in_turn(marks, ranks, slots, guide, leaf);
+    *solid = first_hole(marks, ranks);
+    distance
+}
+
+/// Whether a slot has the leaf, word for word, and a lower rank than `before`.
+#[inline(always)]
+fn has_leaf(
+    ranks: &[u8; WIDEST],
+    slots: &[Place; WIDEST],
+    slot: usize,
+    before: u8,
+    leaf: Place,
+) -> bool
+    requires { slot < 64 }
+    ensures before { result ≡ true → slice_index ranks.now slot < before }
+    ensures place { result ≡ true → IsAt slot leaf slots.now }
+{
+    ranks[slot] < before && leaf.is_equal(slots[slot])
+}
+
+/// Puts a leaf in front, and gives the distance at which it was. The last place gives way, where
+/// none is a hole and none has the leaf. Mostly the guide's slot has the leaf, and no hole is in
+/// front of it.
+#[inline(always)]
+pub(crate) fn bring_in_front(
+    marks: &mut [u8; WIDEST],
+    ranks: &mut [u8; WIDEST],
+    slots: &mut [Place; WIDEST],
+    guide: &mut [u8; MARKS],
+    solid: &mut u8,
+    leaf: Place,
+) -> Option<usize>
+    requires solid { is_vacant leaf ≡ false }
+    requires kept { IsStack marks.old ranks.old slots.old }
+    requires guided { IsGuide guide.old marks.old ranks.old }
+    requires front { IsSolid solid.old marks.old ranks.old }
+    requires most { solid.old ≤ 64 }
+    ensures moved { in_turn ranks.new (places_of slots.new) ≡ take 64 (shifted
+        (same_leaf (leaf_in leaf)) (leaf_in leaf) (in_turn ranks.old (places_of slots.old))) }
+    ensures distance { result ≡
+        distance (same_leaf (leaf_in leaf)) (in_turn ranks.old (places_of slots.old)) }
+    ensures kept { IsStack marks.new ranks.new slots.new }
+    ensures guided { IsGuide guide.new marks.new ranks.new }
+    ensures front { IsSolid solid.new marks.new ranks.new }
+    ensures most { solid.new ≤ 64 }
+{
+    let slot = slot_guided(guide, leaf.mark());
+    if !has_leaf(ranks, slots, slot, *solid, leaf) {
+        return bring_apart(marks, ranks, slots, guide, solid, leaf);
+    }
+    let rank = ranks[slot];
+    move_to_front(ranks, rank);
+    Some(rank as usize)
 }
 
 /// The place without its leaf, where that passes the test.
@@ -259,6 +416,7 @@ fn without<P: Fn(&Leaf) -> bool>(place: Place, test: &P) -> Place
     ensures without { (q : _) → IsTest (FnReturnsAt P.Fn test.now) q →
         place_of result ≡ place_without q (place_of place) }
     ensures thinned { IsSameOrHole (place_of place) (place_of result) }
+    ensures same { is_vacant result ≡ false → result ≡ place }
 {
     if place.is_hole() {
         return place;
@@ -281,6 +439,7 @@ pub(crate) fn vacate_where<P: Fn(&Leaf) -> bool>(
         places_of slots.new ≡ map (place_without q) (places_of slots.old) }
     ensures thinned { AreThinned (places_of slots.old) (places_of slots.new) }
     ensures marks { AreMarks marks.new slots.new }
+    ensures fewer { AreFewer marks.old marks.new }
 {
     for at in 0..WIDEST {
         let place = without(slots[at], test);

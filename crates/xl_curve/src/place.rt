@@ -134,6 +134,14 @@ impl Place {
         other.tag == self.tag && are_same_words(self.word, other.word)
     }
 
+    /// Whether the other place has the same two words.
+    #[inline(always)]
+    pub fn is_equal(self, other: Place) -> bool
+        ensures { result ≡ true → other ≡ self }
+    {
+        other.tag == self.tag && other.word == self.word
+    }
+
     /// Whether the place gives way to a leaf that moves to the front: it is no hole, and has
     /// another leaf.
     #[inline(always)]

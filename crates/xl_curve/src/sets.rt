@@ -29,7 +29,7 @@ pub(crate) fn set_of(sets: usize, page: u64, order: Order) -> usize
 }
 
 /// Puts a leaf in front of the list of its set, and gives the distance at which it was.
-#[inline(never)]
+#[inline(always)]
 pub(crate) fn access_in(stacks: &mut [Stack], set: usize, leaf: Place) -> Option<usize>
     requires set { set < length stacks.old }
     requires leaf { is_vacant leaf ≡ false }

@@ -7,7 +7,9 @@ ghost use Rattle.xl_curve_model.specs.Curves.{same_leaf};
 ghost use Rattle.xl_model.specs.Mapping.{is_leaf};
 ghost use Rattle.xl_recency.specs.Lists.{IsTest};
 
-use crate::kernel::{WIDEST, bring_in_front, lacks, ranks_in_turn, vacate_where};
+use crate::kernel::{
+    MARKS, WIDEST, bring_in_front, first_hole, lacks, ranks_in_turn, vacate_where,
+};
 use crate::place::{HOLE, HOLE_MARK, Place};
 use std::marker::Model;
 use xl_model::{Leaf, Order};
@@ -19,18 +21,23 @@ pub(crate) struct Stack {
     marks: [u8; WIDEST],
     ranks: [u8; WIDEST],
     slots: [Place; WIDEST],
+    /// For each mark the slot that a leaf of it was put into last.
+    guide: [u8; MARKS],
+    /// No hole has a lower rank.
+    solid: u8,
 }
 
 impl Model for Stack {
-    ghost use Rattle.std.specs.Prelude.{List, Option};
+    ghost use Rattle.std.specs.Prelude.{◌≤◌, List, Option};
     ghost use Rattle.xl_model.specs.declared.leaf.Leaf.{Leaf};
-    ghost use Rattle.xl_curve.specs.Places.{IsStack, in_turn, places_of};
+    ghost use Rattle.xl_curve.specs.Places.{IsGuide, IsSolid, IsStack, in_turn, places_of};
 
     ghost Value = { List (Option Leaf) };
 
     ghost view = { λ s. in_turn s.ranks (places_of s.slots) };
 
-    ghost invariant = { λ s. IsStack s.marks s.ranks s.slots };
+    ghost invariant = { λ s. IsStack s.marks s.ranks s.slots × IsGuide s.guide s.marks s.ranks
+        × IsSolid s.solid s.marks s.ranks × (s.solid ≤ 64) };
 }
 
 impl Stack {
@@ -43,6 +50,8 @@ impl Stack {
             marks: [HOLE_MARK; WIDEST],
             ranks: ranks_in_turn(),
             slots: [HOLE; WIDEST],
+            guide: [0; MARKS],
+            solid: 0,
         }
     }
 
@@ -56,7 +65,14 @@ impl Stack {
         ensures distance { result ≡ distance (same_leaf (leaf_in leaf)) self.old }
         ensures below { IfSome result (λ d. d < 64) }
     {
-        bring_in_front(&mut self.marks, &mut self.ranks, &mut self.slots, leaf)
+        bring_in_front(
+            &mut self.marks,
+            &mut self.ranks,
+            &mut self.slots,
+            &mut self.guide,
+            &mut self.solid,
+            leaf,
+        )
     }
 
     /// Whether no place has the leaf of this space, first page and order, by marks alone.
@@ -78,5 +94,6 @@ impl Stack {
         ensures thinned { IsThinned self.old self.new }
     {
         vacate_where(&mut self.marks, &mut self.slots, test);
+        self.solid = first_hole(&self.marks, &self.ranks);
     }
 }

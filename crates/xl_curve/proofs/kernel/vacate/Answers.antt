@@ -1,4 +1,5 @@
 use Rattle.xl_curve.proofs.Common.{◌+◌, ◌<◌, ◌∙◌, ◌≡◌, ◌≤◌, ap, arith, false, get_or, in_turn, is_vacant, IsStack, leaf_in, length, length-map, None, Place, place_of, places_of, refl, same_leaf, sym, true}
+use Rattle.xl_curve.proofs.GuideLemmas.{fewer_hole}
 use Rattle.xl_curve.proofs.KernelLemmas.{at_slot, hole_written, is_other, left, left_at, mark_written, none_at, none_left, other_place, pass_distance, pass_places, places_passed, solid_place}
 use Rattle.xl_curve.proofs.RankLemmas.{turn_length, turn_set}
 use Rattle.xl_curve.proofs.kernel.vacate.Goals as goal
@@ -8,7 +9,7 @@ marked-init c =
     let looked = c.first_marked-rank in
     let passed = places_passed c.args.marks.now c.args.ranks.now c.args.slots.now c.requires.kept c.told-ranks c.told-slots c.args.leaf c.args.from looked.result c.requires.solid looked.ensures.within.0 looked.ensures.within.1
     (λ s l a b. rw c.mark-mark.ensures at ((looked.ensures.passed s l a b).0)) in
-    record { within = looked.ensures.within.1; same = refl; kept = c.requires.kept; passed = passed.0; far = passed.1 }
+    record { within = looked.ensures.within.1; same = refl; marks = refl; kept = c.requires.kept; passed = passed.0; far = passed.1 }
 
 pub returns-then-is_same-clause-places : goal.returns-then-is_same-clause-places
 returns-then-is_same-clause-places c =
@@ -52,7 +53,15 @@ returns-then-is_same-clause-kept c =
     record {
       marked = mark_written c.marked.marks c.marked.slots c.marked.invariant.kept.marked c.slot_at-slot.result 255 (record { tag = 18446744073709551615; word = 0 }) refl;
       ranked = c.requires.kept.ranked;
+      apart = c.requires.kept.apart;
     }
+
+pub returns-then-is_same-clause-fewer : goal.returns-then-is_same-clause-fewer
+returns-then-is_same-clause-fewer c =
+    rw c.marked.invariant.marks (fewer_hole c.args.marks.now c.slot_at-slot.result c.told-marks c.slot_at-slot.ensures.within)
+
+pub returns-clause-fewer : goal.returns-clause-fewer
+returns-clause-fewer c = rw c.marked.invariant.marks (λ s l n. refl)
 
 pub marked-preserved : goal.marked-preserved
 marked-preserved c =
@@ -76,6 +85,7 @@ marked-preserved c =
     record {
       within = looked.ensures.within.1;
       same = c.marked.invariant.same;
+      marks = c.marked.invariant.marks;
       kept = c.marked.invariant.kept;
       passed = c.marked.invariant.passed ∙ pass_places q all rank m o ∙ passed.0;
       far = c.marked.invariant.far ∙ pass_distance q all rank m o ∙ passed.1;

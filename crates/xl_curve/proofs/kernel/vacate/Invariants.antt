@@ -5,6 +5,7 @@ abbrev pub invariant-marked : goal.invariant-marked
 invariant-marked l = record {
   within : l.rank ≤ 64;
   same : l.slots ≡ l.fn.slots;
+  marks : l.marks ≡ l.fn.marks;
   kept : IsStack l.marks l.ranks l.slots;
   passed : take l.from (in_turn l.ranks (places_of l.fn.slots)) ++ vacated (same_leaf (leaf_in l.leaf)) (drop l.from (in_turn l.ranks (places_of l.fn.slots)))
       ≡ take l.rank (in_turn l.ranks (places_of l.fn.slots)) ++ vacated (same_leaf (leaf_in l.leaf)) (drop l.rank (in_turn l.ranks (places_of l.fn.slots)));

@@ -1,9 +1,10 @@
 use Rattle.xl_curve.proofs.Common.{◌<◌, ◌∙◌, ◌≡◌, ◌≤◌, arith, length, length-map, length-set, Place, place_of, place_without, places_of, refl}
+use Rattle.xl_curve.proofs.GuideLemmas.{fewer_more}
 use Rattle.xl_curve.proofs.KernelLemmas.{all_purged, mark_written, purged_more, thinned_more}
 use Rattle.xl_curve.proofs.kernel.vacate_where.Goals as goal
 
 pub loop-at-init : goal.loop-at-init
-loop-at-init g c = record { count = c.told-slots; purged = λ q test. refl; thinned = λ s t hole held. held; marks = c.requires.marks }
+loop-at-init g c = record { count = c.told-slots; purged = λ q test. refl; thinned = λ s t hole held. held; marks = c.requires.marks; fewer = λ s l n. refl }
 
 pub loop-at-preserved : goal.loop-at-preserved
 loop-at-preserved g c =
@@ -18,6 +19,7 @@ loop-at-preserved g c =
           purged_more (place_without q) c.args.slots.now ls at c.without-place.result d l same (c.loop-at.invariant.purged q test) (c.without-place.ensures.without q test);
       thinned = thinned_more (places_of c.args.slots.now) ls at c.without-place.result d l c.loop-at.invariant.thinned c.without-place.ensures.thinned;
       marks = mark_written c.loop-at.marks ls c.loop-at.invariant.marks at c.mark.result c.without-place.result c.mark.ensures;
+      fewer = fewer_more c.args.marks.now c.loop-at.marks ls at c.mark.result c.without-place.result d c.loop-at.invariant.marks l c.mark.ensures c.without-place.ensures.same c.loop-at.invariant.fewer;
     }
 
 pub returns-clause-purged : goal.returns-clause-purged
