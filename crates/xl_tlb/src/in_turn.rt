@@ -19,7 +19,7 @@ use crate::lookup::Request;
 use xl_model::{Kind, Order};
 
 /// What a look found: a leaf, the level that hit, and how many arrays were filled.
-#[derive(Clone, Copy, Debug, PartialEq, Eq)]
+#[derive(Clone, Copy)]
 pub(crate) struct Found {
     pub word: u64,
     pub fills: u64,
