@@ -81,7 +81,8 @@ fn report_of<F: Folder, K: Sink>(
     ensures usage { SaysOfWords (status_by result) (asked (map string_bytes words.now.items)) }
     ensures leaves { FolderLeft F.folder folder.old folder.new
         (status_by result) }
-    ensures proceeds { Proceeds (is_all_put result) (K.sink.outside out.old) (K.sink.outside out.new) }
+    ensures proceeds { Proceeds (is_all_put result) (K.sink.outside out.old)
+        (K.sink.outside out.new) }
 {
     match read(alloc, words.as_slice()) {
         Ok(Words::Plain(words)) => xl_serving::report(

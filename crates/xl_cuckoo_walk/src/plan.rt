@@ -61,7 +61,8 @@ fn is_possible(hit: Option<u64>, order: Order) -> bool
 #[inline(always)]
 fn plan_by_own(hit: Option<u64>, order: Order) -> Plan
     ensures { (tag : _) →
-        result ≡ plan_by true (is_leaf_section order (hit_of tag hit)) (way_found (hit_of tag hit)) }
+        result ≡ plan_by true (is_leaf_section order (hit_of tag hit))
+        (way_found (hit_of tag hit)) }
 {
     match hit {
         None => Plan::Every,

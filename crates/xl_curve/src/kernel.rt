@@ -285,7 +285,8 @@ fn bring_anew(
     requires solid { is_vacant leaf ≡ false }
     requires kept { IsStack marks.old ranks.old slots.old }
     requires guided { IsGuide guide.old marks.old ranks.old }
-    requires none { gap (same_leaf (leaf_in leaf)) (in_turn ranks.old (places_of slots.old)) ≡ None }
+    requires none { gap (same_leaf (leaf_in leaf)) (in_turn ranks.old (places_of slots.old))
+        ≡ None }
     ensures moved { in_turn ranks.new (places_of slots.new) ≡ take 64 (shifted
         (same_leaf (leaf_in leaf)) (leaf_in leaf) (in_turn ranks.old (places_of slots.old))) }
     ensures distance { None ≡

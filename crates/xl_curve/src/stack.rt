@@ -78,7 +78,8 @@ impl Stack {
     /// Whether no place has the leaf of this space, first page and order, by marks alone.
     #[inline(always)]
     pub fn lacks(&self, space: u16, first: u64, order: Order) -> bool
-        ensures { result ≡ true → map (place_without (is_leaf space first order)) self.now ≡ self.now }
+        ensures { result ≡ true → map (place_without (is_leaf space first order)) self.now
+            ≡ self.now }
     {
         match Place::named(space, first, order) {
             Some(named) => lacks(&self.marks, &self.slots, named),

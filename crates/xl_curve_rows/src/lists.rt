@@ -16,28 +16,32 @@ pub fn three_pages_twice()
 /// A removed leaf leaves a hole: where the places after it closed up, width 2 would have two hits.
 #[tactic(auto, unfolding(xl_curve_model::specs::CurveComputing::computing_curves))]
 pub fn a_removed_leaf_leaves_a_hole()
-    ensures { figures (curve_of_run a_removed_leaf_leaves_a_hole_row 1 a_removed_leaf_leaves_a_hole_items)
+    ensures { figures (curve_of_run a_removed_leaf_leaves_a_hole_row 1
+        a_removed_leaf_leaves_a_hole_items)
         ≡ 5 ∷ 0 ∷ 1 ∷ replicate 62 2 }
 {}
 
 /// A hole in front of the touched place is filled, and the place becomes the hole.
 #[tactic(auto, unfolding(xl_curve_model::specs::CurveComputing::computing_curves))]
 pub fn a_hole_above_the_touched_place()
-    ensures { figures (curve_of_run a_hole_above_the_touched_place_row 1 a_hole_above_the_touched_place_items)
+    ensures { figures (curve_of_run a_hole_above_the_touched_place_row 1
+        a_hole_above_the_touched_place_items)
         ≡ 10 ∷ 0 ∷ 0 ∷ 0 ∷ 4 ∷ replicate 60 5 }
 {}
 
 /// A hole after the touched place stays where it is.
 #[tactic(auto, unfolding(xl_curve_model::specs::CurveComputing::computing_curves))]
 pub fn a_hole_below_the_touched_place()
-    ensures { figures (curve_of_run a_hole_below_the_touched_place_row 1 a_hole_below_the_touched_place_items)
+    ensures { figures (curve_of_run a_hole_below_the_touched_place_row 1
+        a_hole_below_the_touched_place_items)
         ≡ 10 ∷ 0 ∷ 1 ∷ 2 ∷ 4 ∷ replicate 60 5 }
 {}
 
 /// A leaf that was removed and comes again fills its own hole, or an earlier one.
 #[tactic(auto, unfolding(xl_curve_model::specs::CurveComputing::computing_curves))]
 pub fn a_hole_at_the_touched_place()
-    ensures { figures (curve_of_run a_hole_at_the_touched_place_row 1 a_hole_at_the_touched_place_items)
+    ensures { figures (curve_of_run a_hole_at_the_touched_place_row 1
+        a_hole_at_the_touched_place_items)
         ≡ 9 ∷ 0 ∷ 1 ∷ 1 ∷ replicate 61 3 }
 {}
 

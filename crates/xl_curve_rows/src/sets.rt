@@ -15,7 +15,8 @@ pub fn many_sets()
 /// Three sets: leaves of 2 MiB of blocks 1 and 4 share set 1. One is unmapped and mapped anew.
 #[tactic(auto, unfolding(xl_curve_model::specs::CurveComputing::computing_curves))]
 pub fn large_leaves_of_three_sets()
-    ensures { figures (curve_of_run large_leaves_of_three_sets_row 3 large_leaves_of_three_sets_items)
+    ensures { figures (curve_of_run large_leaves_of_three_sets_row 3
+        large_leaves_of_three_sets_items)
         ≡ 10 ∷ 1 ∷ replicate 63 6 }
 {}
 
@@ -36,21 +37,24 @@ pub fn fences_of_an_address()
 /// A purge by space takes the leaves of the space from each set.
 #[tactic(auto, unfolding(xl_curve_model::specs::CurveComputing::computing_curves))]
 pub fn a_purge_by_space_in_each_set()
-    ensures { figures (curve_of_run a_purge_by_space_in_each_set_row 3 a_purge_by_space_in_each_set_items)
+    ensures { figures (curve_of_run a_purge_by_space_in_each_set_row 3
+        a_purge_by_space_in_each_set_items)
         ≡ 10 ∷ 1 ∷ replicate 63 2 }
 {}
 
 /// A purge of all takes the leaves of every space from each set.
 #[tactic(auto, unfolding(xl_curve_model::specs::CurveComputing::computing_curves))]
 pub fn a_purge_of_all_in_each_set()
-    ensures { figures (curve_of_run a_purge_of_all_in_each_set_row 256 a_purge_of_all_in_each_set_items)
+    ensures { figures (curve_of_run a_purge_of_all_in_each_set_row 256
+        a_purge_of_all_in_each_set_items)
         ≡ 9 ∷ replicate 64 1 }
 {}
 
 /// A purge of a page takes the leaf of its own space alone.
 #[tactic(auto, unfolding(xl_curve_model::specs::CurveComputing::computing_curves))]
 pub fn a_purge_of_a_page_in_its_set()
-    ensures { figures (curve_of_run a_purge_of_a_page_in_its_set_row 3 a_purge_of_a_page_in_its_set_items)
+    ensures { figures (curve_of_run a_purge_of_a_page_in_its_set_row 3
+        a_purge_of_a_page_in_its_set_items)
         ≡ 11 ∷ 1 ∷ 1 ∷ replicate 62 4 }
 {}
 

@@ -55,7 +55,8 @@ pub fn report<F: Folder, K: Sink>(
         (rows.new ≡ curve_rows (curve_of words.now) fs)) }
     ensures leaves { FolderLeft F.folder folder.old folder.new
         (status_by result) }
-    ensures proceeds { Proceeds (is_all_put result) (K.sink.outside out.old) (K.sink.outside out.new) }
+    ensures proceeds { Proceeds (is_all_put result) (K.sink.outside out.old)
+        (K.sink.outside out.new) }
     ensures caused { IfErr result StopsRun }
     ensures early { result ≡ Err Stop.NoMemory → AreOpened rows.new }
 {
@@ -96,7 +97,8 @@ fn report_orders<F: Folder, K: Sink>(
         (start_of rows.old orders.now.plain.script.now))) }
     ensures leaves { FolderLeft F.folder folder.old folder.new
         (status_by result) }
-    ensures proceeds { Proceeds (is_all_put result) (K.sink.outside out.old) (K.sink.outside out.new) }
+    ensures proceeds { Proceeds (is_all_put result) (K.sink.outside out.old)
+        (K.sink.outside out.new) }
     ensures caused { IfErr result StopsRun }
     ensures early { result ≡ Err Stop.NoMemory → rows.new ≡ rows.old }
 {
@@ -133,7 +135,8 @@ fn report_from<T: Source, F: Folder, K: Sink>(
         (start_of rows.old orders.now.plain.script.now))) }
     ensures leaves { FolderLeft F.folder folder.old folder.new
         (status_by result) }
-    ensures proceeds { Proceeds (is_all_put result) (K.sink.outside out.old) (K.sink.outside out.new) }
+    ensures proceeds { Proceeds (is_all_put result) (K.sink.outside out.old)
+        (K.sink.outside out.new) }
     ensures caused { IfErr result StopsRun }
     ensures early { result ≡ Err Stop.NoMemory → rows.new ≡ rows.old }
 {

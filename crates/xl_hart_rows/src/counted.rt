@@ -8,13 +8,15 @@ ghost use Rattle.xl_hart_rows.specs.Counted.{eight_harts_in_turn_spec, eight_har
 /// and the last one frees the frame.
 #[tactic(auto, unfolding(xl_hart_model::specs::Computing::hart_computing))]
 pub fn eight_harts_in_turn()
-    ensures { figures eight_harts_in_turn_spec eight_harts_in_turn_events ≡ eight_harts_in_turn_figures }
+    ensures { figures eight_harts_in_turn_spec eight_harts_in_turn_events
+        ≡ eight_harts_in_turn_figures }
 {}
 
 /// The same in falling order, some harts twice in turn.
 #[tactic(auto, unfolding(xl_hart_model::specs::Computing::hart_computing))]
 pub fn eight_harts_in_falling_order()
-    ensures { figures eight_harts_in_falling_order_spec eight_harts_in_falling_order_events ≡ eight_harts_in_falling_order_figures }
+    ensures { figures eight_harts_in_falling_order_spec eight_harts_in_falling_order_events
+        ≡ eight_harts_in_falling_order_figures }
 {}
 
 /// A queue of two is full after two maps; a take of one hart leaves the other's full.
@@ -39,91 +41,105 @@ pub fn no_such_hart()
 /// taken the unmap.
 #[tactic(auto, unfolding(xl_hart_model::specs::Computing::hart_computing))]
 pub fn a_block_of_4k_held_back()
-    ensures { figures a_block_of_4k_held_back_spec a_block_of_4k_held_back_events ≡ a_block_of_4k_held_back_figures }
+    ensures { figures a_block_of_4k_held_back_spec a_block_of_4k_held_back_events
+        ≡ a_block_of_4k_held_back_figures }
 {}
 
 /// Two harts, and the frames of one block of 2 MiB: the block is held back until the second has
 /// taken the unmap.
 #[tactic(auto, unfolding(xl_hart_model::specs::Computing::hart_computing))]
 pub fn a_block_of_2m_held_back()
-    ensures { figures a_block_of_2m_held_back_spec a_block_of_2m_held_back_events ≡ a_block_of_2m_held_back_figures }
+    ensures { figures a_block_of_2m_held_back_spec a_block_of_2m_held_back_events
+        ≡ a_block_of_2m_held_back_figures }
 {}
 
 /// Two harts, and the frames of one block of 1 GiB: the block is held back until the second has
 /// taken the unmap.
 #[tactic(auto, unfolding(xl_hart_model::specs::Computing::hart_computing))]
 pub fn a_block_of_1g_held_back()
-    ensures { figures a_block_of_1g_held_back_spec a_block_of_1g_held_back_events ≡ a_block_of_1g_held_back_figures }
+    ensures { figures a_block_of_1g_held_back_spec a_block_of_1g_held_back_events
+        ≡ a_block_of_1g_held_back_figures }
 {}
 
 /// A protect that one hart sees and the other doesn't, until it takes: a store is allowed, denied,
 /// then denied.
 #[tactic(auto, unfolding(xl_hart_model::specs::Computing::hart_computing))]
 pub fn a_protect_seen_old_and_new()
-    ensures { figures a_protect_seen_old_and_new_spec a_protect_seen_old_and_new_events ≡ a_protect_seen_old_and_new_figures }
+    ensures { figures a_protect_seen_old_and_new_spec a_protect_seen_old_and_new_events
+        ≡ a_protect_seen_old_and_new_figures }
 {}
 
 /// A move: the hart that read the page still reads it at its old place, the other at its new place
 /// alone.
 #[tactic(auto, unfolding(xl_hart_model::specs::Computing::hart_computing))]
 pub fn a_move_seen_old_and_new()
-    ensures { figures a_move_seen_old_and_new_spec a_move_seen_old_and_new_events ≡ a_move_seen_old_and_new_figures }
+    ensures { figures a_move_seen_old_and_new_spec a_move_seen_old_and_new_events
+        ≡ a_move_seen_old_and_new_figures }
 {}
 
 /// A store that an older leaf allows and the mapping denies.
 #[tactic(auto, unfolding(xl_hart_model::specs::Computing::hart_computing))]
 pub fn denied_in_the_mapping()
-    ensures { figures denied_in_the_mapping_spec denied_in_the_mapping_events ≡ denied_in_the_mapping_figures }
+    ensures { figures denied_in_the_mapping_spec denied_in_the_mapping_events
+        ≡ denied_in_the_mapping_figures }
 {}
 
 /// A store that an older leaf denies and the mapping allows.
 #[tactic(auto, unfolding(xl_hart_model::specs::Computing::hart_computing))]
 pub fn denied_by_an_older_leaf()
-    ensures { figures denied_by_an_older_leaf_spec denied_by_an_older_leaf_events ≡ denied_by_an_older_leaf_figures }
+    ensures { figures denied_by_an_older_leaf_spec denied_by_an_older_leaf_events
+        ≡ denied_by_an_older_leaf_figures }
 {}
 
 /// A space is switched for one hart alone, and is no request.
 #[tactic(auto, unfolding(xl_hart_model::specs::Computing::hart_computing))]
 pub fn a_space_of_one_hart()
-    ensures { figures a_space_of_one_hart_spec a_space_of_one_hart_events ≡ a_space_of_one_hart_figures }
+    ensures { figures a_space_of_one_hart_spec a_space_of_one_hart_events
+        ≡ a_space_of_one_hart_figures }
 {}
 
 /// A take of an unmap leaves an entry of the same page in another frame.
 #[tactic(auto, unfolding(xl_hart_model::specs::Computing::hart_computing))]
 pub fn another_frame_stays()
-    ensures { figures another_frame_stays_spec another_frame_stays_events ≡ another_frame_stays_figures }
+    ensures { figures another_frame_stays_spec another_frame_stays_events
+        ≡ another_frame_stays_figures }
 {}
 
 /// A take of a protect leaves an entry of the same page with another permission.
 #[tactic(auto, unfolding(xl_hart_model::specs::Computing::hart_computing))]
 pub fn another_permission_stays()
-    ensures { figures another_permission_stays_spec another_permission_stays_events ≡ another_permission_stays_figures }
+    ensures { figures another_permission_stays_spec another_permission_stays_events
+        ≡ another_permission_stays_figures }
 {}
 
 /// Two blocks of 2 MiB and a page are held back, and given back one after another.
 #[tactic(auto, unfolding(xl_hart_model::specs::Computing::hart_computing))]
 pub fn frames_held_of_two_blocks()
-    ensures { figures frames_held_of_two_blocks_spec frames_held_of_two_blocks_events ≡ frames_held_of_two_blocks_figures }
+    ensures { figures frames_held_of_two_blocks_spec frames_held_of_two_blocks_events
+        ≡ frames_held_of_two_blocks_figures }
 {}
 
 /// The same in mixed order, and a hart that reads the page anew between its two takes.
 #[tactic(auto, unfolding(xl_hart_model::specs::Computing::hart_computing))]
 pub fn eight_harts_in_mixed_order()
-    ensures { figures eight_harts_in_mixed_order_spec eight_harts_in_mixed_order_events ≡ eight_harts_in_mixed_order_figures }
+    ensures { figures eight_harts_in_mixed_order_spec eight_harts_in_mixed_order_events
+        ≡ eight_harts_in_mixed_order_figures }
 {}
 
 /// Each refusal where later ones hold too: 1, 2, 3, 6 and 7 of a map, 4 and 5 of an unmap, 4, 6, 8
 /// and 10 of a move.
 #[tactic(auto, unfolding(xl_hart_model::specs::Computing::hart_computing))]
 pub fn refusals_in_their_order()
-    ensures { figures refusals_in_their_order_spec refusals_in_their_order_events ≡ refusals_in_their_order_figures }
+    ensures { figures refusals_in_their_order_spec refusals_in_their_order_events
+        ≡ refusals_in_their_order_figures }
 {}
 
 /// A full queue and a table without room: a map and a move into another root entry are refused for
 /// the room.
 #[tactic(auto, unfolding(xl_hart_model::specs::Computing::hart_computing))]
 pub fn room_comes_before_the_queue()
-    ensures { figures room_comes_before_the_queue_spec room_comes_before_the_queue_events ≡ room_comes_before_the_queue_figures }
+    ensures { figures room_comes_before_the_queue_spec room_comes_before_the_queue_events
+        ≡ room_comes_before_the_queue_figures }
 {}
 
 /// A set of eight ways keeps eight leaves, and the ninth takes the oldest one's place. Worked out

@@ -40,7 +40,8 @@ pub fn report<F: Folder, K: Sink>(
         (harts.new ≡ harts_left (pair_of words.now) fs)) }
     ensures leaves { FolderLeft F.folder folder.old folder.new
         (status_by result) }
-    ensures proceeds { Proceeds (is_all_put result) (K.sink.outside out.old) (K.sink.outside out.new) }
+    ensures proceeds { Proceeds (is_all_put result) (K.sink.outside out.old)
+        (K.sink.outside out.new) }
     ensures caused { IfErr result StopsRun }
     ensures early { result ≡ Err Stop.NoMemory → harts.new ≡ harts.old }
 {
@@ -72,7 +73,8 @@ fn report_orders<F: Folder, K: Sink>(
         orders.now.script.now))) }
     ensures leaves { FolderLeft F.folder folder.old folder.new
         (status_by result) }
-    ensures proceeds { Proceeds (is_all_put result) (K.sink.outside out.old) (K.sink.outside out.new) }
+    ensures proceeds { Proceeds (is_all_put result) (K.sink.outside out.old)
+        (K.sink.outside out.new) }
     ensures caused { IfErr result StopsRun }
     ensures early { result ≡ Err Stop.NoMemory → harts.new ≡ harts.old }
 {

@@ -14,28 +14,35 @@ ghost use Rattle.xl_model_rows.specs.ByHandEdges.{both_halves_of_the_addresses_r
 /// Addresses of the upper half have pages of their own.
 #[tactic(auto, unfolding(xl_model::specs::Computing::computing))]
 pub fn both_halves_of_the_addresses()
-    ensures { report rows_alone both_halves_of_the_addresses_rows both_halves_of_the_addresses_items ≡ codes "a accesses=2 ok=1 unmapped=1 denied=0 notcanonical=0 accepted=1 refused=0,0,0,0,0,0,0,0,0 walks=2 reads=4 wchits=0 fills=0 kicks=0 undone=0 migrated=0 growths=0 fences=0 invalidated=0 pasum=0000000000000000 tlb=-\n" }
+    ensures { report rows_alone both_halves_of_the_addresses_rows both_halves_of_the_addresses_items
+        ≡ codes "a accesses=2 ok=1 unmapped=1 denied=0 notcanonical=0 accepted=1 refused=0,0,0,0,0,0,0,0,0 walks=2 reads=4 wchits=0 fills=0 kicks=0 undone=0 migrated=0 growths=0 fences=0 invalidated=0 pasum=0000000000000000 tlb=-\n" }
 {}
 
 /// A page that may be executed alone.
 #[tactic(auto, unfolding(xl_model::specs::Computing::computing))]
 pub fn a_page_to_execute()
-    ensures { report rows_alone a_page_to_execute_rows a_page_to_execute_items ≡ codes "a accesses=3 ok=1 unmapped=0 denied=2 notcanonical=0 accepted=1 refused=0,0,0,0,0,0,0,0,0 walks=3 reads=9 wchits=0 fills=0 kicks=0 undone=0 migrated=0 growths=0 fences=0 invalidated=0 pasum=0000000000000004 tlb=-\n" }
+    ensures { report rows_alone a_page_to_execute_rows a_page_to_execute_items
+        ≡ codes "a accesses=3 ok=1 unmapped=0 denied=2 notcanonical=0 accepted=1 refused=0,0,0,0,0,0,0,0,0 walks=3 reads=9 wchits=0 fills=0 kicks=0 undone=0 migrated=0 growths=0 fences=0 invalidated=0 pasum=0000000000000004 tlb=-\n" }
 {}
 
 /// A count at its greatest goes on at 0.
 #[tactic(auto, unfolding(xl_model::specs::Computing::computing))]
 pub fn counts_go_on_at_0()
-    ensures accesses { (after_event plain_row (event.Access 0 kind.Load) at_the_greatest).counts.accesses ≡ 0 }
-    ensures unmapped { (after_event plain_row (event.Access 0 kind.Load) at_the_greatest).counts.unmapped ≡ 0 }
-    ensures walks { (after_event plain_row (event.Access 0 kind.Load) at_the_greatest).counts.walks ≡ 0 }
-    ensures reads { (after_event plain_row (event.Access 0 kind.Load) at_the_greatest).counts.reads ≡ 1 }
+    ensures accesses { (after_event plain_row (event.Access 0 kind.Load)
+        at_the_greatest).counts.accesses ≡ 0 }
+    ensures unmapped { (after_event plain_row (event.Access 0 kind.Load)
+        at_the_greatest).counts.unmapped ≡ 0 }
+    ensures walks { (after_event plain_row (event.Access 0 kind.Load) at_the_greatest).counts.walks
+        ≡ 0 }
+    ensures reads { (after_event plain_row (event.Access 0 kind.Load) at_the_greatest).counts.reads
+        ≡ 1 }
 {}
 
 /// The blocks of a command follow one another by their size.
 #[tactic(auto, unfolding(xl_model::specs::Computing::computing))]
 pub fn blocks_of_a_command()
     ensures { events_from map_of_block 0 3 ≡
-        Command (event.Map 0 2097152 order.M2 perm_r__u) ∷ Command (event.Map 0 4194304 order.M2 perm_r__u)
+        Command (event.Map 0 2097152 order.M2 perm_r__u) ∷ Command
+        (event.Map 0 4194304 order.M2 perm_r__u)
         ∷ Command (event.Map 0 6291456 order.M2 perm_r__u) ∷ [] }
 {}

@@ -206,7 +206,8 @@ fn only_with(only: Order, order: Order) -> Held
 #[tactic(auto, using(crate::proofs::HeldLemmas::off_filled, crate::proofs::HeldLemmas::first_filled))]
 #[inline(always)]
 fn held_with(held: Held, order: Order) -> Held
-    ensures { (old new : Cached Item) (item : Item) → IsHeld held old → item.tag % 3 ≡ level_of order →
+    ensures { (old new : Cached Item) (item : Item) → IsHeld held old → item.tag % 3
+        ≡ level_of order →
         new.width ≡ old.width → new.items ≡ with_newest old.width item old.items →
         IsHeld result new }
 {

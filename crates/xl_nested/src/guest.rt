@@ -88,7 +88,8 @@ impl Guest {
     pub fn map(&mut self, page: u64, order: Order, to: u64, perm: Perm) -> Result<(), NestRefusal>
         requires page { IsPlace page order (2 ^ 27) }
         requires frames { IsPlace to order (2 ^ 29) }
-        ensures { IsServed (map_rule 0 page order (Some (guest_map page order to perm)) self.old.stage)
+        ensures { IsServed (map_rule 0 page order (Some
+            (guest_map page order to perm)) self.old.stage)
             result self.old (vmapped page order to perm self.old) self.new }
     {
         if self.stage.meets(0, page, order) {

@@ -17,30 +17,38 @@ pub fn six_refusals()
 /// GMAP: each refusal is given where those after it hold too.
 #[tactic(auto, unfolding(xl_model::specs::Computing::computing, xl_nested_model::specs::Computing::nested_computing))]
 pub fn the_first_refusal_of_a_gmap()
-    ensures outcomes { outcomes_of the_first_refusal_of_a_gmap_row ≡ the_first_refusal_of_a_gmap_row.outcomes }
-    ensures counts { counts_of the_first_refusal_of_a_gmap_row ≡ the_first_refusal_of_a_gmap_row.counts }
+    ensures outcomes { outcomes_of the_first_refusal_of_a_gmap_row
+        ≡ the_first_refusal_of_a_gmap_row.outcomes }
+    ensures counts { counts_of the_first_refusal_of_a_gmap_row
+        ≡ the_first_refusal_of_a_gmap_row.counts }
 {}
 
 /// VMAP: either address is tested, 1 of both before 2 of both, then the leaves, then the nodes.
 #[tactic(auto, unfolding(xl_model::specs::Computing::computing, xl_nested_model::specs::Computing::nested_computing))]
 pub fn the_first_refusal_of_a_vmap()
-    ensures outcomes { outcomes_of the_first_refusal_of_a_vmap_row ≡ the_first_refusal_of_a_vmap_row.outcomes }
-    ensures counts { counts_of the_first_refusal_of_a_vmap_row ≡ the_first_refusal_of_a_vmap_row.counts }
+    ensures outcomes { outcomes_of the_first_refusal_of_a_vmap_row
+        ≡ the_first_refusal_of_a_vmap_row.outcomes }
+    ensures counts { counts_of the_first_refusal_of_a_vmap_row
+        ≡ the_first_refusal_of_a_vmap_row.counts }
 {}
 
 /// Both unmaps: an address out of range, one not aligned, then no such leaf; a leaf of another size
 /// isn't the one named.
 #[tactic(auto, unfolding(xl_model::specs::Computing::computing, xl_nested_model::specs::Computing::nested_computing))]
 pub fn the_first_refusal_of_an_unmap()
-    ensures outcomes { outcomes_of the_first_refusal_of_an_unmap_row ≡ the_first_refusal_of_an_unmap_row.outcomes }
-    ensures counts { counts_of the_first_refusal_of_an_unmap_row ≡ the_first_refusal_of_an_unmap_row.counts }
+    ensures outcomes { outcomes_of the_first_refusal_of_an_unmap_row
+        ≡ the_first_refusal_of_an_unmap_row.outcomes }
+    ensures counts { counts_of the_first_refusal_of_an_unmap_row
+        ≡ the_first_refusal_of_an_unmap_row.counts }
 {}
 
 /// The four roots count among the host's nodes: with four of them only leaves of 1 GiB have room.
 #[tactic(auto, unfolding(xl_model::specs::Computing::computing, xl_nested_model::specs::Computing::nested_computing))]
 pub fn four_host_nodes_take_1g_alone()
-    ensures outcomes { outcomes_of four_host_nodes_take_1g_alone_row ≡ four_host_nodes_take_1g_alone_row.outcomes }
-    ensures counts { counts_of four_host_nodes_take_1g_alone_row ≡ four_host_nodes_take_1g_alone_row.counts }
+    ensures outcomes { outcomes_of four_host_nodes_take_1g_alone_row
+        ≡ four_host_nodes_take_1g_alone_row.outcomes }
+    ensures counts { counts_of four_host_nodes_take_1g_alone_row
+        ≡ four_host_nodes_take_1g_alone_row.counts }
 {}
 
 /// An unmap gives the stage's nodes back, at either stage.

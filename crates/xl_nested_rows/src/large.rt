@@ -7,14 +7,16 @@ ghost use Rattle.xl_nested_rows.specs.Large.{one_2m_leaf_of_the_host_row, a_2m_l
 /// One host leaf of 2 MiB has nodes and data: all but the first translation are hits.
 #[tactic(auto, unfolding(xl_model::specs::Computing::computing, xl_nested_model::specs::Computing::nested_computing))]
 pub fn one_2m_leaf_of_the_host()
-    ensures outcomes { outcomes_of one_2m_leaf_of_the_host_row ≡ one_2m_leaf_of_the_host_row.outcomes }
+    ensures outcomes { outcomes_of one_2m_leaf_of_the_host_row
+        ≡ one_2m_leaf_of_the_host_row.outcomes }
     ensures counts { counts_of one_2m_leaf_of_the_host_row ≡ one_2m_leaf_of_the_host_row.counts }
 {}
 
 /// A guest leaf of 2 MiB over host leaves of 4 KiB.
 #[tactic(auto, unfolding(xl_model::specs::Computing::computing, xl_nested_model::specs::Computing::nested_computing))]
 pub fn a_2m_leaf_of_the_guest()
-    ensures outcomes { outcomes_of a_2m_leaf_of_the_guest_row ≡ a_2m_leaf_of_the_guest_row.outcomes }
+    ensures outcomes { outcomes_of a_2m_leaf_of_the_guest_row
+        ≡ a_2m_leaf_of_the_guest_row.outcomes }
     ensures counts { counts_of a_2m_leaf_of_the_guest_row ≡ a_2m_leaf_of_the_guest_row.counts }
 {}
 
@@ -29,8 +31,10 @@ pub fn leaves_of_1g_at_both()
 /// leaf for.
 #[tactic(auto, unfolding(xl_model::specs::Computing::computing, xl_nested_model::specs::Computing::nested_computing))]
 pub fn a_1g_leaf_of_the_guest_over_many()
-    ensures outcomes { outcomes_of a_1g_leaf_of_the_guest_over_many_row ≡ a_1g_leaf_of_the_guest_over_many_row.outcomes }
-    ensures counts { counts_of a_1g_leaf_of_the_guest_over_many_row ≡ a_1g_leaf_of_the_guest_over_many_row.counts }
+    ensures outcomes { outcomes_of a_1g_leaf_of_the_guest_over_many_row
+        ≡ a_1g_leaf_of_the_guest_over_many_row.outcomes }
+    ensures counts { counts_of a_1g_leaf_of_the_guest_over_many_row
+        ≡ a_1g_leaf_of_the_guest_over_many_row.counts }
 {}
 
 /// A host leaf of 1 GiB has the guest's nodes and its pages: a translation takes one load, and
@@ -44,6 +48,8 @@ pub fn a_1g_leaf_of_the_host()
 /// A guest leaf of 2 MiB at a host leaf of 2 MiB: two nodes, then one leaf of each stage.
 #[tactic(auto, unfolding(xl_model::specs::Computing::computing, xl_nested_model::specs::Computing::nested_computing))]
 pub fn a_2m_leaf_of_the_guest_under_a_2m_leaf_of_the_host()
-    ensures outcomes { outcomes_of a_2m_leaf_of_the_guest_under_a_2m_leaf_of_the_host_row ≡ a_2m_leaf_of_the_guest_under_a_2m_leaf_of_the_host_row.outcomes }
-    ensures counts { counts_of a_2m_leaf_of_the_guest_under_a_2m_leaf_of_the_host_row ≡ a_2m_leaf_of_the_guest_under_a_2m_leaf_of_the_host_row.counts }
+    ensures outcomes { outcomes_of a_2m_leaf_of_the_guest_under_a_2m_leaf_of_the_host_row
+        ≡ a_2m_leaf_of_the_guest_under_a_2m_leaf_of_the_host_row.outcomes }
+    ensures counts { counts_of a_2m_leaf_of_the_guest_under_a_2m_leaf_of_the_host_row
+        ≡ a_2m_leaf_of_the_guest_under_a_2m_leaf_of_the_host_row.counts }
 {}

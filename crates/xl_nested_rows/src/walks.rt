@@ -16,15 +16,18 @@ pub fn walks_of_both()
 /// the code of a store's guest-page fault.
 #[tactic(auto, unfolding(xl_model::specs::Computing::computing, xl_nested_model::specs::Computing::nested_computing))]
 pub fn store_denied_by_the_host()
-    ensures outcomes { outcomes_of store_denied_by_the_host_row ≡ store_denied_by_the_host_row.outcomes }
+    ensures outcomes { outcomes_of store_denied_by_the_host_row
+        ≡ store_denied_by_the_host_row.outcomes }
     ensures counts { counts_of store_denied_by_the_host_row ≡ store_denied_by_the_host_row.counts }
 {}
 
 /// A store that the guest allows and the host denies; a fetch that the guest denies.
 #[tactic(auto, unfolding(xl_model::specs::Computing::computing, xl_nested_model::specs::Computing::nested_computing))]
 pub fn store_denied_over_a_1g_leaf()
-    ensures outcomes { outcomes_of store_denied_over_a_1g_leaf_row ≡ store_denied_over_a_1g_leaf_row.outcomes }
-    ensures counts { counts_of store_denied_over_a_1g_leaf_row ≡ store_denied_over_a_1g_leaf_row.counts }
+    ensures outcomes { outcomes_of store_denied_over_a_1g_leaf_row
+        ≡ store_denied_over_a_1g_leaf_row.outcomes }
+    ensures counts { counts_of store_denied_over_a_1g_leaf_row
+        ≡ store_denied_over_a_1g_leaf_row.counts }
 {}
 
 /// A node whose page the host doesn't let be loaded: a guest-page fault with the access's code.
@@ -73,20 +76,26 @@ pub fn a_fault_at_each_node()
 /// A node's page is unmapped and then mapped to another frame: the guest's words are as before.
 #[tactic(auto, unfolding(xl_model::specs::Computing::computing, xl_nested_model::specs::Computing::nested_computing))]
 pub fn a_nodes_page_at_another_frame()
-    ensures outcomes { outcomes_of a_nodes_page_at_another_frame_row ≡ a_nodes_page_at_another_frame_row.outcomes }
-    ensures counts { counts_of a_nodes_page_at_another_frame_row ≡ a_nodes_page_at_another_frame_row.counts }
+    ensures outcomes { outcomes_of a_nodes_page_at_another_frame_row
+        ≡ a_nodes_page_at_another_frame_row.outcomes }
+    ensures counts { counts_of a_nodes_page_at_another_frame_row
+        ≡ a_nodes_page_at_another_frame_row.counts }
 {}
 
 /// Two pages of the guest are mapped to one guest page, with permissions of their own.
 #[tactic(auto, unfolding(xl_model::specs::Computing::computing, xl_nested_model::specs::Computing::nested_computing))]
 pub fn two_pages_at_one_guest_page()
-    ensures outcomes { outcomes_of two_pages_at_one_guest_page_row ≡ two_pages_at_one_guest_page_row.outcomes }
-    ensures counts { counts_of two_pages_at_one_guest_page_row ≡ two_pages_at_one_guest_page_row.counts }
+    ensures outcomes { outcomes_of two_pages_at_one_guest_page_row
+        ≡ two_pages_at_one_guest_page_row.outcomes }
+    ensures counts { counts_of two_pages_at_one_guest_page_row
+        ≡ two_pages_at_one_guest_page_row.counts }
 {}
 
 /// A guest page under each of the host's four roots; page 0 of each is another guest page.
 #[tactic(auto, unfolding(xl_model::specs::Computing::computing, xl_nested_model::specs::Computing::nested_computing))]
 pub fn all_four_roots_of_the_host()
-    ensures outcomes { outcomes_of all_four_roots_of_the_host_row ≡ all_four_roots_of_the_host_row.outcomes }
-    ensures counts { counts_of all_four_roots_of_the_host_row ≡ all_four_roots_of_the_host_row.counts }
+    ensures outcomes { outcomes_of all_four_roots_of_the_host_row
+        ≡ all_four_roots_of_the_host_row.outcomes }
+    ensures counts { counts_of all_four_roots_of_the_host_row
+        ≡ all_four_roots_of_the_host_row.counts }
 {}

@@ -41,7 +41,8 @@ pub fn report<F: Folder, K: Sink>(
         (nested.new ≡ nested_left (pair_of words.now) fs)) }
     ensures leaves { FolderLeft F.folder folder.old folder.new
         (status_by result) }
-    ensures proceeds { Proceeds (is_all_put result) (K.sink.outside out.old) (K.sink.outside out.new) }
+    ensures proceeds { Proceeds (is_all_put result) (K.sink.outside out.old)
+        (K.sink.outside out.new) }
     ensures caused { IfErr result StopsRun }
     ensures early { result ≡ Err Stop.NoMemory → nested.new ≡ nested.old }
 {
@@ -73,7 +74,8 @@ fn report_orders<F: Folder, K: Sink>(
         orders.now.script.now))) }
     ensures leaves { FolderLeft F.folder folder.old folder.new
         (status_by result) }
-    ensures proceeds { Proceeds (is_all_put result) (K.sink.outside out.old) (K.sink.outside out.new) }
+    ensures proceeds { Proceeds (is_all_put result) (K.sink.outside out.old)
+        (K.sink.outside out.new) }
     ensures caused { IfErr result StopsRun }
     ensures early { result ≡ Err Stop.NoMemory → nested.new ≡ nested.old }
 {

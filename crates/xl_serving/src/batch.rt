@@ -128,7 +128,8 @@ impl PlainBatch {
     #[inline(never)]
     pub(crate) fn put_off_event<R: Rows>(&mut self, rows: &mut R, areas: &Areas, event: Event)
         ensures { drained self.new (scene_of (R.rows rows.new) areas.now)
-            ≡ scene_after (Command event) (drained self.old (scene_of (R.rows rows.old) areas.now)) }
+            ≡ scene_after (Command event) (drained self.old
+            (scene_of (R.rows rows.old) areas.now)) }
     {
         self.make_room_for_event(rows, areas);
         let gap = self.accesses.len() - self.placed;

@@ -38,7 +38,8 @@ pub fn report<R: Rows, F: Folder, K: Sink>(
         (R.rows rows.new ≡ plain_rows (plain_of words.now) fs)) }
     ensures leaves { FolderLeft F.folder folder.old folder.new
         (status_by result) }
-    ensures proceeds { Proceeds (is_all_put result) (K.sink.outside out.old) (K.sink.outside out.new) }
+    ensures proceeds { Proceeds (is_all_put result) (K.sink.outside out.old)
+        (K.sink.outside out.new) }
     ensures caused { IfErr result StopsRun }
     ensures early { result ≡ Err Stop.NoMemory → AreOpened (R.rows rows.new)
         ⊎ ((words.now.json ≡ true) × IfSome (F.folder.files folder.old) (λ fs.
@@ -74,7 +75,8 @@ fn report_orders<R: Rows, F: Folder, K: Sink>(
         (start_of (R.rows rows.old) orders.now.script.now))) }
     ensures leaves { FolderLeft F.folder folder.old folder.new
         (status_by result) }
-    ensures proceeds { Proceeds (is_all_put result) (K.sink.outside out.old) (K.sink.outside out.new) }
+    ensures proceeds { Proceeds (is_all_put result) (K.sink.outside out.old)
+        (K.sink.outside out.new) }
     ensures caused { IfErr result StopsRun }
     ensures early { result ≡ Err Stop.NoMemory → (R.rows rows.new ≡ R.rows rows.old)
         ⊎ ((orders.now.words.now.json ≡ true) × IfSome (F.folder.files folder.old) (λ fs.
@@ -118,7 +120,8 @@ fn report_from<R: Rows, T: Source, F: Folder, K: Sink>(
         (start_of (R.rows rows.old) orders.now.script.now))) }
     ensures leaves { FolderLeft F.folder folder.old folder.new
         (status_by result) }
-    ensures proceeds { Proceeds (is_all_put result) (K.sink.outside out.old) (K.sink.outside out.new) }
+    ensures proceeds { Proceeds (is_all_put result) (K.sink.outside out.old)
+        (K.sink.outside out.new) }
     ensures caused { IfErr result StopsRun }
     ensures early { result ≡ Err Stop.NoMemory → (R.rows rows.new ≡ R.rows rows.old)
         ⊎ ((orders.now.words.now.json ≡ true) × IfSome (F.folder.files folder.old) (λ fs.

@@ -36,7 +36,13 @@ struct Pipe {
 const PIPED: [u8; 5] = [b'a', b'b', b'c', b'd', b'e'];
 
 impl Stream for Pipe {
-    ghost state = { λ p. Some (record { name = codes "trace"; bytes = codes "abcde"; place = p.at; seeks = 0 }) };
+    ghost state = { λ p. Some (record {
+      name = codes "trace";
+      bytes = codes "abcde";
+      place =
+          p.at;
+      seeks = 0;
+    }) };
 
     fn is_named(&self, name: &str) -> bool {
         name == "trace"
