@@ -173,7 +173,7 @@ impl Levels {
 
     /// Puts a leaf that a walk found into the arrays of every level that serve the access and hold
     /// its order.
-    #[inline(never)]
+    #[inline]
     pub fn fill(&mut self, kind: Kind, space: u16, page: u64, hit: Hit)
         requires space { space < 64 }
         requires page { page < 2 ^ 52 }

@@ -1,7 +1,7 @@
 //! One array that serves all accesses, of any width.
 //!
-//! Taken where it takes leaves of 4 KiB. It is looked at in line, by its width: saves the look in
-//! turn.
+//! Taken where it takes leaves of 4 KiB. No other levels are looked for, and an array of four or eight
+//! ways is looked at in line: saves the look in turn.
 
 ghost use Rattle.std.specs.Prelude.{◌≡◌, true, map};
 ghost use Rattle.xl_model.specs.declared.address.Kind.{Kind as KindOf};
@@ -18,7 +18,7 @@ use crate::lookup::Lookup;
 use crate::newest::MruPages;
 use crate::pair::first_and_rest;
 use crate::shape::{Known, Shape};
-use xl_model::{Kind, Order};
+use xl_model::Kind;
 
 /// Whether the sets of the one array are a multiple of eight. Where they aren't, one page is known
 /// at most.
@@ -63,7 +63,7 @@ fn look_first(first: &mut AnyArray, above: bool, lookup: Lookup) -> Answered
         };
     }
     let set = first.set_of(lookup);
-    if let Some(word) = first.touch_in(set, lookup, Order::K4) {
+    if let Some(word) = first.touch_small(set, lookup) {
         return Answered::Word { word };
     }
     if first.has_large() {
