@@ -62,8 +62,18 @@ fn open_caches(alloc: Global, widths: &[u8]) -> Result<Vec<Cache<Item>>, NoMemor
     Ok(caches)
 }
 
-/// Touches the page's node in the cache of level 0. The closure is written out here, so that LLVM
-/// has a copy of the search for this call alone, and inlines it.
+/// Touches the newest item of a tag. The closure is written out here, so that LLVM has a copy of
+/// the search for this call alone.
+#[inline(never)]
+fn touch_apart(cache: &mut Cache<Item>, tag: u64) -> Option<Item>
+    ensures touched { Touches (has_tag tag) cache.old.items cache.new.items result }
+    ensures width { cache.new.width ≡ cache.old.width }
+{
+    cache.touch(|item| item.tag == tag)
+}
+
+/// Touches the page's node in the cache of level 0. Mostly it is the newest, and nothing moves.
+#[inline(always)]
 fn touch_lowest(cache: &mut Cache<Item>, space: u16, page: u64) -> Option<Item>
     requires page { page < 2 ^ 45 }
     ensures touched { Touches (has_tag (tag_at space 0 page)) cache.old.items cache.new.items
@@ -71,7 +81,12 @@ fn touch_lowest(cache: &mut Cache<Item>, space: u16, page: u64) -> Option<Item>
     ensures width { cache.new.width ≡ cache.old.width }
 {
     let tag = tag_of(space, page, 0);
-    cache.touch(|item| item.tag == tag)
+    if let Some(item) = cache.newest() {
+        if item.tag == tag {
+            return Some(item);
+        }
+    }
+    touch_apart(cache, tag)
 }
 
 impl WalkCaches {
@@ -112,7 +127,7 @@ impl WalkCaches {
 
     /// The number of the page's node of level 0, where the cache of that level holds it; it is
     /// touched then.
-    #[inline(never)]
+    #[inline(always)]
     pub fn look_lowest(&mut self, space: u16, page: u64) -> Option<u64>
         requires page { page < 2 ^ 45 }
         ensures some { IfSome result (IsLowest space page self.old self.new) }

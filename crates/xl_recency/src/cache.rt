@@ -1,6 +1,6 @@
 //! A recency list of a width that is known when the program runs.
 
-ghost use Rattle.std.specs.Prelude.{◌≡◌, ◌+◌, ◌≤◌, length, IsOk, IfOk};
+ghost use Rattle.std.specs.Prelude.{◌≡◌, ◌+◌, ◌∷◌, ◌≤◌, [], length, take, IfOk, IfSome, IsOk};
 ghost use Rattle.std.specs.Fn.{FnReturnsAt};
 ghost use Rattle.xl_model.specs.Caches.{empty_cache};
 ghost use Rattle.xl_recency.specs.Lists.{IsTest, Touches, Fills, Purges};
@@ -56,6 +56,17 @@ impl<T: Copy> Cache<T> {
     {
         let items: &[T] = &self.slots[..self.len];
         items.len()
+    }
+
+    /// The newest item.
+    #[inline(always)]
+    pub fn newest(&self) -> Option<T>
+        ensures { IfSome result (λ item. take 1 self.now.items ≡ item ∷ []) }
+    {
+        if self.len == 0 {
+            return None;
+        }
+        Some(self.slots[0])
     }
 
     /// Moves the newest item that passes the test to the front, and returns it. `None` where none
