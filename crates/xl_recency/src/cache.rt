@@ -1,6 +1,6 @@
 //! A recency list of a width that is known when the program runs.
 
-ghost use Rattle.std.specs.Prelude.{◌≡◌, ◌+◌, ◌∷◌, ◌≤◌, [], length, take, IfOk, IfSome, IsOk};
+ghost use Rattle.std.specs.Prelude.{◌≡◌, ◌+◌, ◌∷◌, ◌≤◌, [], length, take, IfNone, IfOk, IfSome, IsOk};
 ghost use Rattle.std.specs.Fn.{FnReturnsAt};
 ghost use Rattle.xl_model.specs.Caches.{empty_cache};
 ghost use Rattle.xl_recency.specs.Lists.{IsTest, Touches, Fills, Purges};
@@ -61,7 +61,8 @@ impl<T: Copy> Cache<T> {
     /// The newest item.
     #[inline(always)]
     pub fn newest(&self) -> Option<T>
-        ensures { IfSome result (λ item. take 1 self.now.items ≡ item ∷ []) }
+        ensures some { IfSome result (λ item. take 1 self.now.items ≡ item ∷ []) }
+        ensures none { IfNone result (self.now.items ≡ []) }
     {
         if self.len == 0 {
             return None;
