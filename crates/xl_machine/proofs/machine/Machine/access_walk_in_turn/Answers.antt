@@ -49,5 +49,5 @@ returns-in-Small g c =
     let page = c.args.page in
     let leaf = small_leaf c.self.inside.space page c.in-Small.word in
     let replied = small_replied c.self.invariant.served page (replied_leaf c.in-Small.ensures.walks) c.reply_of_word-reply.ensures in
-    rw (c.reply.ensures, c.walk.ensures, c.fill_small.ensures, ← c.self.view_is)
+    rw (c.reply.ensures, c.walk-in-Small.ensures, c.fill_small.ensures, ← c.self.view_is)
     (small_answer c.self.invariant.served page (rw (← c.self.view_is) at c.requires) c.args.kind c.self.inside.counts leaf c.in-Small.cache_hits c.in-Small.ensures.walks replied.is replied.small)

@@ -1,6 +1,6 @@
 use Rattle.xl_range.proofs.Common.{ap, row_table, sym}
 use Rattle.xl_range.proofs.WalkLemmas.{hit-at, hit-walk, still-walk}
-use Rattle.xl_range.proofs.ranges.RangesStructure.walk.Goals as goal
+use Rattle.xl_range.proofs.ranges.Ranges.walk_newest.Goals as goal
 
 pub leaf_in-requires : goal.leaf_in-requires
 leaf_in-requires c =
