@@ -47,7 +47,11 @@ fn a_walk_ends_at_a_leaf_at_no_entry_and_where_no_word_is(rt: HostRuntime) -> Re
     memory.poke(1027, (77 << 10) + 19);
     let mut path = ArrayVec::new();
     let end = walk::<PhysMem, 3>(&mut memory, 2, 0, PAGE, &mut path);
-    assert!(rt; matches!(end, WalkEnd::Leaf { level: 0, frame: 77, perm } if is_read(perm)));
+    let WalkEnd::Leaf { level, frame, perm } = end else {
+        return Err("no leaf".into());
+    };
+    assert_eq!(rt; (level, frame), (0, 77));
+    assert!(rt; is_read(perm));
     assert_eq!(rt; path.as_slice(), [1, 2].as_slice());
     let mut path = ArrayVec::new();
     let end = walk::<PhysMem, 3>(&mut memory, 2, 0, 3 << 18, &mut path);
