@@ -60,6 +60,23 @@ fn look_second(first: &mut AnyArray, set: usize, second: &mut AnyArray, lookup: 
     Seen::Second { word }
 }
 
+/// Like `look_pair`, where the first array lacks the leaf of 4 KiB, and may have a larger one. Out
+/// of line, so that `look_pair` stays small enough to be in line.
+#[inline(never)]
+fn look_pair_above(first: &mut AnyArray, second: &mut AnyArray, lookup: Lookup) -> Seen
+    requires lookup { IsLookup order_of.K4 lookup }
+    requires first { IsOfPair first.old.spec }
+    requires second { IsOfPair second.old.spec }
+    requires lacks { LacksSmall lookup.space lookup.page first.old }
+    ensures { IsPairLook lookup.space lookup.page result first.old second.old first.new second.new }
+{
+    let set = first.common_set_of(lookup);
+    match first.touch_large(true, lookup.space, lookup.page) {
+        Some(word) => Seen::Large { word },
+        None => look_second(first, set, second, lookup),
+    }
+}
+
 /// Looks for the leaf of 4 KiB that is sought in both arrays, and touches the first one that has
 /// it. Where that is the second, the first is filled. Unknown where a larger leaf may answer; then
 /// nothing changes. With `above` the first one lacks the leaf, and is asked for larger ones.
@@ -76,13 +93,10 @@ pub(crate) fn look_pair(
     requires lacks { above ≡ true → LacksSmall lookup.space lookup.page first.old }
     ensures { IsPairLook lookup.space lookup.page result first.old second.old first.new second.new }
 {
-    let set = first.common_set_of(lookup);
     if above {
-        return match first.touch_large(true, lookup.space, lookup.page) {
-            Some(word) => Seen::Large { word },
-            None => look_second(first, set, second, lookup),
-        };
+        return look_pair_above(first, second, lookup);
     }
+    let set = first.common_set_of(lookup);
     if let Some(word) = first.touch_common(set, lookup, Order::K4) {
         return Seen::First { word };
     }
