@@ -126,7 +126,8 @@ pub trait Form<R>: Sized {
     /// line is written. Returns of how many records.
     fn skim<T: Source>(&mut self, rack: &mut R, source: &mut T, most: u64) -> u64
         ensures skims { (fs : Files) → T.reads_from source.old fs
-            → Skimmed meaning (T.reads_from source.new fs) (T.left source.old fs) (T.left source.new fs)
+            → Skimmed meaning (T.reads_from source.new fs) (T.left source.old fs)
+            (T.left source.new fs)
             (state self.old rack.old) (state self.new rack.new) result }
         ensures few { result ≤ most }
         ensures no_more { T.size source.new ≤ T.size source.old }

@@ -41,7 +41,8 @@ fn replay<
         (D.state form.old rack.old)))) }
     ensures leaves { FolderAfter F.folder folder.old folder.new
         (fate_by stop_fate result) }
-    ensures proceeds { Proceeds (is_all_put result) (K.sink.outside out.old) (K.sink.outside out.new) }
+    ensures proceeds { Proceeds (is_all_put result) (K.sink.outside out.old)
+        (K.sink.outside out.new) }
     ensures caused { IfErr result StopsRun }
     ensures early { result ≡ Err Stop.NoMemory → (D.late (C.end orders.now) ≡ true)
         × IfSome (F.folder.files folder.old) (λ fs. T.reads_from source.old fs
@@ -99,7 +100,8 @@ pub fn report<
         (D.state form.old rack.old)))) }
     ensures leaves { FolderLeft F.folder folder.old folder.new
         (status_by result) }
-    ensures proceeds { Proceeds (is_all_put result) (K.sink.outside out.old) (K.sink.outside out.new) }
+    ensures proceeds { Proceeds (is_all_put result) (K.sink.outside out.old)
+        (K.sink.outside out.new) }
     ensures caused { IfErr result StopsRun }
     ensures early { result ≡ Err Stop.NoMemory → (D.late (C.end orders.now) ≡ true)
         × IfSome (F.folder.files folder.old) (λ fs. T.reads_from source.old fs

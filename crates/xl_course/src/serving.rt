@@ -39,7 +39,8 @@ pub fn serve<
         (D.state form.old rack.old) (D.state form.new rack.new) out.old out.new result) }
     ensures leaves { FolderAfter F.folder folder.old folder.new
         (fate_by stop_fate result) }
-    ensures proceeds { Proceeds (is_all_put result) (K.sink.outside out.old) (K.sink.outside out.new) }
+    ensures proceeds { Proceeds (is_all_put result) (K.sink.outside out.old)
+        (K.sink.outside out.new) }
     ensures caused { IfErr result StopsServing }
 {
     if orders.answers() {
@@ -72,7 +73,8 @@ fn serve_script<
         (D.state form.old rack.old) (D.state form.new rack.new) out.old out.new result) }
     ensures leaves { FolderAfter F.folder folder.old folder.new
         (fate_by stop_fate result) }
-    ensures proceeds { Proceeds (is_all_put result) (K.sink.outside out.old) (K.sink.outside out.new) }
+    ensures proceeds { Proceeds (is_all_put result) (K.sink.outside out.old)
+        (K.sink.outside out.new) }
     ensures caused { IfErr result StopsServing }
 {
     for i in 0..orders.len() {
@@ -98,7 +100,8 @@ fn serve_step<R, D: Form<R>, T: Source, F: Folder, K: Sink, const ANSWERS: bool>
         (D.state form.old rack.old) (D.state form.new rack.new) out.old out.new result) }
     ensures leaves { FolderAfter F.folder folder.old folder.new
         (fate_by stop_fate result) }
-    ensures proceeds { Proceeds (is_all_put result) (K.sink.outside out.old) (K.sink.outside out.new) }
+    ensures proceeds { Proceeds (is_all_put result) (K.sink.outside out.old)
+        (K.sink.outside out.new) }
     ensures caused { IfErr result StopsServing }
     ensures can { (rest : List (Step D.Command))
         → D.can form.old rack.old (commands_of (step ∷ rest))
@@ -123,7 +126,8 @@ fn skim<R, D: Form<R>, T: Source, const ANSWERS: bool>(
     most: u64,
 ) -> u64
     ensures skims { (fs : Files) → T.reads_from source.old fs
-        → Skimmed D.meaning (T.reads_from source.new fs) (T.left source.old fs) (T.left source.new fs)
+        → Skimmed D.meaning (T.reads_from source.new fs) (T.left source.old fs)
+        (T.left source.new fs)
         (D.state form.old rack.old) (D.state form.new rack.new) result }
     ensures none { ANSWERS ≡ true → result ≡ 0 }
     ensures few { result ≤ most }
@@ -152,7 +156,8 @@ fn serve_rest<R, D: Form<R>, T: Source, F: Folder, K: Sink, const ANSWERS: bool>
         (D.state form.old rack.old) (D.state form.new rack.new) out.old out.new result) }
     ensures leaves { FolderAfter F.folder folder.old folder.new
         (fate_by stop_fate result) }
-    ensures proceeds { Proceeds (is_all_put result) (K.sink.outside out.old) (K.sink.outside out.new) }
+    ensures proceeds { Proceeds (is_all_put result) (K.sink.outside out.old)
+        (K.sink.outside out.new) }
     ensures caused { IfErr result StopsServing }
     ensures can { (commands : List D.Command)
         → D.can form.old rack.old commands → D.can form.new rack.new commands }
@@ -183,7 +188,8 @@ fn serve_run<R, D: Form<R>, T: Source, F: Folder, K: Sink, const ANSWERS: bool>(
         (D.state form.old rack.old) (D.state form.new rack.new) out.old out.new result) }
     ensures leaves { FolderAfter F.folder folder.old folder.new
         (fate_by stop_fate result) }
-    ensures proceeds { Proceeds (is_all_put result) (K.sink.outside out.old) (K.sink.outside out.new) }
+    ensures proceeds { Proceeds (is_all_put result) (K.sink.outside out.old)
+        (K.sink.outside out.new) }
     ensures caused { IfErr result StopsServing }
     ensures can { (commands : List D.Command)
         → D.can form.old rack.old commands → D.can form.new rack.new commands }

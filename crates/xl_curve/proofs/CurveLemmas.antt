@@ -256,6 +256,3 @@ opened_curve stacks sets holes empty is =
 
 pub holes_held : (w : ℕ) → held {A = Leaf} w (replicate 64 None) ≡ []
 holes_held w = only_holes w 64
-
-pub opened_size : (stacks : List (List (Option Leaf))) (sets : ℕ) (holes : List (Option Leaf)) → stacks ≡ replicate sets holes → length stacks ≡ sets
-opened_size stacks sets holes is = ap (λ (xs : List (List (Option Leaf))). length xs) is ∙ size sets holes

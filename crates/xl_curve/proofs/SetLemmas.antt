@@ -1,5 +1,5 @@
 -- Each leaf is in its own set, so that what is looked for in one set is in no other.
-use Rattle.xl_curve.proofs.Common.{◌%◌, ◌&&◌, ◌+◌, ◌/◌, ◌<◌, ◌==◌, ◌||◌, ◌∙◌, ◌∷◌, ◌≡◌, ◌≤◌, [], ap, arith, Bool, covers, covers_as, false, first_so, get_or, get_or-set_other, get_or-set_same, get_or_default, hole_where, is_leaf, is_placed, IsCurve, IsRemovedIn, IsThinned, Leaf, length, length-map, length-set, List, list_all, map, nat_tests, None, Option, Order, order_same, pages_of, place_without, refl, removed, replicate, same_order, second_so, set, set-get_or, set_of, shifted, Some, subst, suc, sym, take, true, vacated, with_removed, zero, ℕ}
+use Rattle.xl_curve.proofs.Common.{◌%◌, ◌&&◌, ◌+◌, ◌/◌, ◌<◌, ◌==◌, ◌||◌, ◌∙◌, ◌∷◌, ◌≡◌, ◌≤◌, [], ap, arith, Bool, covers, covers_as, false, first_so, get_or, get_or-set_other, get_or-set_same, get_or_default, hole_where, is_leaf, is_placed, IsCurve, IsRemovedIn, IsThinned, Leaf, length, length-map, length-set, List, list_all, map, nat_tests, None, Option, Order, order_same, pages_of, place_without, refl, removed, same_order, second_so, set, set-get_or, set_of, shifted, Some, subst, suc, sym, take, true, vacated, with_removed, zero, ℕ}
 use Rattle.std.proofs.Math.ListN.{get_or-map}
 use Rattle.xl_model.specs.declared.address.Order.TheVariants as order
 
@@ -41,27 +41,6 @@ all_taken t (suc n) [] h = refl
 all_taken t (suc n) (x ∷ xs) h = rw (first_so (t x) (list_all t xs) h) (all_taken t n xs (second_so (t x) (list_all t xs) h))
 
 -- ---- empty sets
-
-all_holes : {A : Type 0} (t : Option A → Bool) → t None ≡ true → (n : ℕ) → list_all t (replicate n None) ≡ true
-all_holes t hole zero = refl
-all_holes t hole (suc n) = rw hole (all_holes t hole n)
-
-each_empty : (sets n k : ℕ) → list_all (is_placed sets k) (get_or (replicate n (replicate 64 None)) k []) ≡ true
-each_empty sets n k = go n k (is_placed sets k) refl
-  where
-    go : (m j : ℕ) (t : Option Leaf → Bool) → t None ≡ true → list_all t (get_or (replicate m (replicate 64 None)) j []) ≡ true
-    go zero j t hole = refl
-    go (suc m) zero t hole = all_holes t hole 64
-    go (suc m) (suc j) t hole = go m j t hole
-
--- The sets of an empty curve.
-pub opened_kept : (stacks : List (List (Option Leaf))) (sets : ℕ) → 0 < sets → sets ≤ 256 → length stacks ≡ sets → stacks ≡ replicate sets (replicate 64 None)
-    → IsCurve stacks
-opened_kept stacks sets some most size is = record {
-  some = omega (arith, size);
-  most = omega (arith, size);
-  placed = λ k. ap (λ (xs : List (List (Option Leaf))). list_all (is_placed (length stacks) k) (get_or xs k [])) is ∙ each_empty (length stacks) sets k;
-}
 
 -- ---- a set is changed
 

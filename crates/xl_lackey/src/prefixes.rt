@@ -47,7 +47,8 @@ impl Prefix {
         requires at { at < 2000000 }
         requires above { above < 99 }
         requires addr { self.now.addr < 2 ^ 48 }
-        ensures is { IfSome result (λ a. a ≡ record { va = self.now.addr + at; kind = self.now.kind }) }
+        ensures is { IfSome result
+            (λ a. a ≡ record { va = self.now.addr + at; kind = self.now.kind }) }
         ensures within { IfSome result (λ a. at + above < 4096) }
     {
         if at + (above as u64) < 4096 {

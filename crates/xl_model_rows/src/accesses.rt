@@ -65,7 +65,8 @@ pub fn three_modes()
 #[tactic(auto, unfolding(xl_model::specs::Computing::computing))]
 pub fn a_modify_over_a_page_boundary()
     ensures { report with_answers a_modify_over_a_page_boundary_rows
-        a_modify_over_a_page_boundary_items ≡ codes "a cmd map ok\na cmd map ok\na 1 L 0 0000000000001ffe ok 0000000000000ffe\na 1 L 0 0000000000002000 ok 0000000000001000\na 1 S 0 0000000000001ffe ok 0000000000000ffe\na 1 S 0 0000000000002000 ok 0000000000001000\na accesses=4 ok=4 unmapped=0 denied=0 notcanonical=0 accepted=2 refused=0,0,0,0,0,0,0,0,0 walks=4 reads=12 wchits=0 fills=0 kicks=0 undone=0 migrated=0 growths=0 fences=0 invalidated=0 pasum=0000000000003ffc tlb=-\n" }
+        a_modify_over_a_page_boundary_items ≡ codes
+        "a cmd map ok\na cmd map ok\na 1 L 0 0000000000001ffe ok 0000000000000ffe\na 1 L 0 0000000000002000 ok 0000000000001000\na 1 S 0 0000000000001ffe ok 0000000000000ffe\na 1 S 0 0000000000002000 ok 0000000000001000\na accesses=4 ok=4 unmapped=0 denied=0 notcanonical=0 accepted=2 refused=0,0,0,0,0,0,0,0,0 walks=4 reads=12 wchits=0 fills=0 kicks=0 undone=0 migrated=0 growths=0 fences=0 invalidated=0 pasum=0000000000003ffc tlb=-\n" }
 {}
 
 /// The last byte of the address space, Sv39.

@@ -30,21 +30,24 @@ pub fn a_hit_in_the_third_level()
 #[tactic(auto, unfolding(xl_model::specs::Computing::computing))]
 pub fn a_hit_in_the_third_level_fills_two()
     ensures { report rows_alone a_hit_in_the_third_level_fills_two_rows
-        a_hit_in_the_third_level_fills_two_items ≡ codes "a accesses=7 ok=7 unmapped=0 denied=0 notcanonical=0 accepted=3 refused=0,0,0,0,0,0,0,0,0 walks=3 reads=8 wchits=0 fills=11 kicks=0 undone=0 migrated=0 growths=0 fences=0 invalidated=0 pasum=0000000000201000 tlb=2/5,1/4,1/3\n" }
+        a_hit_in_the_third_level_fills_two_items ≡ codes
+        "a accesses=7 ok=7 unmapped=0 denied=0 notcanonical=0 accepted=3 refused=0,0,0,0,0,0,0,0,0 walks=3 reads=8 wchits=0 fills=11 kicks=0 undone=0 migrated=0 growths=0 fences=0 invalidated=0 pasum=0000000000201000 tlb=2/5,1/4,1/3\n" }
 {}
 
 /// A hit in a later level brings the leaf to the front there.
 #[tactic(auto, unfolding(xl_model::specs::Computing::computing))]
 pub fn a_hit_in_a_later_level_touches_it()
     ensures { report rows_alone a_hit_in_a_later_level_touches_it_rows
-        a_hit_in_a_later_level_touches_it_items ≡ codes "a accesses=6 ok=6 unmapped=0 denied=0 notcanonical=0 accepted=3 refused=0,0,0,0,0,0,0,0,0 walks=4 reads=12 wchits=0 fills=10 kicks=0 undone=0 migrated=0 growths=0 fences=0 invalidated=0 pasum=0000000000004000 tlb=0/6,2/4\n" }
+        a_hit_in_a_later_level_touches_it_items ≡ codes
+        "a accesses=6 ok=6 unmapped=0 denied=0 notcanonical=0 accepted=3 refused=0,0,0,0,0,0,0,0,0 walks=4 reads=12 wchits=0 fills=10 kicks=0 undone=0 migrated=0 growths=0 fences=0 invalidated=0 pasum=0000000000004000 tlb=0/6,2/4\n" }
 {}
 
 /// A hit in the first level leaves the second as it is.
 #[tactic(auto, unfolding(xl_model::specs::Computing::computing))]
 pub fn a_hit_in_the_first_level_touches_it_alone()
     ensures { report rows_alone a_hit_in_the_first_level_touches_it_alone_rows
-        a_hit_in_the_first_level_touches_it_alone_items ≡ codes "a accesses=6 ok=6 unmapped=0 denied=0 notcanonical=0 accepted=3 refused=0,0,0,0,0,0,0,0,0 walks=3 reads=9 wchits=0 fills=7 kicks=0 undone=0 migrated=0 growths=0 fences=0 invalidated=0 pasum=0000000000004000 tlb=2/4,1/3\n" }
+        a_hit_in_the_first_level_touches_it_alone_items
+        ≡ codes "a accesses=6 ok=6 unmapped=0 denied=0 notcanonical=0 accepted=3 refused=0,0,0,0,0,0,0,0,0 walks=3 reads=9 wchits=0 fills=7 kicks=0 undone=0 migrated=0 growths=0 fences=0 invalidated=0 pasum=0000000000004000 tlb=2/4,1/3\n" }
 {}
 
 /// Two leaves in different sets, and two that fight for one set.

@@ -23,7 +23,8 @@ pub fn moves_refused_in_order()
 #[tactic(auto, unfolding(xl_model::specs::Computing::computing))]
 pub fn protects_and_unmaps_refused_in_order()
     ensures { report with_answers protects_and_unmaps_refused_in_order_rows
-        protects_and_unmaps_refused_in_order_items ≡ codes "a cmd map ok\na cmd map ok\na cmd protect refused 1\na cmd protect refused 2\na cmd protect refused 3\na cmd protect refused 4\na cmd protect refused 5\na cmd protect refused 5\na cmd unmap refused 5\na cmd unmap ok\na cmd unmap refused 4\na accesses=0 ok=0 unmapped=0 denied=0 notcanonical=0 accepted=3 refused=1,1,1,2,3,0,0,0,0 walks=0 reads=0 wchits=0 fills=0 kicks=0 undone=0 migrated=0 growths=0 fences=0 invalidated=0 pasum=0000000000000000 tlb=-\n" }
+        protects_and_unmaps_refused_in_order_items ≡ codes
+        "a cmd map ok\na cmd map ok\na cmd protect refused 1\na cmd protect refused 2\na cmd protect refused 3\na cmd protect refused 4\na cmd protect refused 5\na cmd protect refused 5\na cmd unmap refused 5\na cmd unmap ok\na cmd unmap refused 4\na accesses=0 ok=0 unmapped=0 denied=0 notcanonical=0 accepted=3 refused=1,1,1,2,3,0,0,0,0 walks=0 reads=0 wchits=0 fills=0 kicks=0 undone=0 migrated=0 growths=0 fences=0 invalidated=0 pasum=0000000000000000 tlb=-\n" }
 {}
 
 /// Refusals 1 and 2 of a fence, and 1 of a space switch.
@@ -72,7 +73,8 @@ pub fn a_demand_that_is_refused()
 #[tactic(auto, unfolding(xl_model::specs::Computing::computing))]
 pub fn only_an_unmapped_access_demands()
     ensures { report with_answers only_an_unmapped_access_demands_rows
-        only_an_unmapped_access_demands_items ≡ codes "a cmd map ok\na 1 S 0 0000000000001000 denied 15\na 2 L 0 0000004000000000 notcanonical 13\na 3 L 0 0000000000002000 unmapped 13\na cmd map ok\na 3 L 0 0000000000002000 ok 0000000000001000\na accesses=4 ok=1 unmapped=1 denied=1 notcanonical=1 accepted=2 refused=0,0,0,0,0,0,0,0,0 walks=3 reads=9 wchits=0 fills=0 kicks=0 undone=0 migrated=0 growths=0 fences=0 invalidated=0 pasum=0000000000001000 tlb=-\n" }
+        only_an_unmapped_access_demands_items ≡ codes
+        "a cmd map ok\na 1 S 0 0000000000001000 denied 15\na 2 L 0 0000004000000000 notcanonical 13\na 3 L 0 0000000000002000 unmapped 13\na cmd map ok\na 3 L 0 0000000000002000 ok 0000000000001000\na accesses=4 ok=1 unmapped=1 denied=1 notcanonical=1 accepted=2 refused=0,0,0,0,0,0,0,0,0 walks=3 reads=9 wchits=0 fills=0 kicks=0 undone=0 migrated=0 growths=0 fences=0 invalidated=0 pasum=0000000000001000 tlb=-\n" }
 {}
 
 /// The first and the last page of an area, and those beside it.

@@ -30,21 +30,24 @@ pub fn two_arrays_in_one_level()
 #[tactic(auto, unfolding(xl_model::specs::Computing::computing))]
 pub fn a_fence_by_page_inside_a_large_leaf()
     ensures { report rows_alone a_fence_by_page_inside_a_large_leaf_rows
-        a_fence_by_page_inside_a_large_leaf_items ≡ codes "a accesses=2 ok=2 unmapped=0 denied=0 notcanonical=0 accepted=2 refused=0,0,0,0,0,0,0,0,0 walks=2 reads=4 wchits=0 fills=2 kicks=0 undone=0 migrated=0 growths=0 fences=1 invalidated=1 pasum=0000000000000000 tlb=0/2\n" }
+        a_fence_by_page_inside_a_large_leaf_items ≡ codes
+        "a accesses=2 ok=2 unmapped=0 denied=0 notcanonical=0 accepted=2 refused=0,0,0,0,0,0,0,0,0 walks=2 reads=4 wchits=0 fills=2 kicks=0 undone=0 migrated=0 growths=0 fences=1 invalidated=1 pasum=0000000000000000 tlb=0/2\n" }
 {}
 
 /// A fence by an address inside a cached leaf of 2 MiB removes the leaf.
 #[tactic(auto, unfolding(xl_model::specs::Computing::computing))]
 pub fn a_fence_by_addr_inside_a_large_leaf()
     ensures { report rows_alone a_fence_by_addr_inside_a_large_leaf_rows
-        a_fence_by_addr_inside_a_large_leaf_items ≡ codes "a accesses=2 ok=2 unmapped=0 denied=0 notcanonical=0 accepted=2 refused=0,0,0,0,0,0,0,0,0 walks=2 reads=4 wchits=0 fills=2 kicks=0 undone=0 migrated=0 growths=0 fences=1 invalidated=1 pasum=0000000000000000 tlb=0/2\n" }
+        a_fence_by_addr_inside_a_large_leaf_items ≡ codes
+        "a accesses=2 ok=2 unmapped=0 denied=0 notcanonical=0 accepted=2 refused=0,0,0,0,0,0,0,0,0 walks=2 reads=4 wchits=0 fills=2 kicks=0 undone=0 migrated=0 growths=0 fences=1 invalidated=1 pasum=0000000000000000 tlb=0/2\n" }
 {}
 
 /// A move asks for the section of its new place while it has that of the old.
 #[tactic(auto, unfolding(xl_model::specs::Computing::computing))]
 pub fn a_move_between_1_gib_sections()
     ensures { report rows_alone a_move_between_1_gib_sections_rows
-        a_move_between_1_gib_sections_items ≡ codes "a accesses=1 ok=1 unmapped=0 denied=0 notcanonical=0 accepted=1 refused=0,0,0,0,0,0,0,1,0 walks=1 reads=6 wchits=0 fills=0 kicks=0 undone=0 migrated=0 growths=0 fences=0 invalidated=0 pasum=0000000000000000 tlb=-\n" }
+        a_move_between_1_gib_sections_items ≡ codes
+        "a accesses=1 ok=1 unmapped=0 denied=0 notcanonical=0 accepted=1 refused=0,0,0,0,0,0,0,1,0 walks=1 reads=6 wchits=0 fills=0 kicks=0 undone=0 migrated=0 growths=0 fences=0 invalidated=0 pasum=0000000000000000 tlb=-\n" }
 {}
 
 /// A move asks for room for the ranges that are left and the new one.
@@ -58,21 +61,24 @@ pub fn a_move_that_parts_a_range()
 #[tactic(auto, unfolding(xl_model::specs::Computing::computing))]
 pub fn a_1_gib_leaf_takes_no_2_mib_section()
     ensures { report rows_alone a_1_gib_leaf_takes_no_2_mib_section_rows
-        a_1_gib_leaf_takes_no_2_mib_section_items ≡ codes "a accesses=2 ok=2 unmapped=0 denied=0 notcanonical=0 accepted=2 refused=0,0,0,0,0,0,0,0,0 walks=2 reads=12 wchits=0 fills=0 kicks=0 undone=0 migrated=0 growths=0 fences=0 invalidated=0 pasum=0000000040000000 tlb=-\n" }
+        a_1_gib_leaf_takes_no_2_mib_section_items ≡ codes
+        "a accesses=2 ok=2 unmapped=0 denied=0 notcanonical=0 accepted=2 refused=0,0,0,0,0,0,0,0,0 walks=2 reads=12 wchits=0 fills=0 kicks=0 undone=0 migrated=0 growths=0 fences=0 invalidated=0 pasum=0000000040000000 tlb=-\n" }
 {}
 
 /// An unmap removes the cached ranges of its own space alone.
 #[tactic(auto, unfolding(xl_model::specs::Computing::computing))]
 pub fn an_unmap_beside_a_range_of_another_space()
     ensures { report rows_alone an_unmap_beside_a_range_of_another_space_rows
-        an_unmap_beside_a_range_of_another_space_items ≡ codes "a accesses=3 ok=3 unmapped=0 denied=0 notcanonical=0 accepted=4 refused=0,0,0,0,0,0,0,0,0 walks=3 reads=3 wchits=1 fills=0 kicks=0 undone=0 migrated=0 growths=0 fences=0 invalidated=1 pasum=0000000000002000 tlb=-\n" }
+        an_unmap_beside_a_range_of_another_space_items
+        ≡ codes "a accesses=3 ok=3 unmapped=0 denied=0 notcanonical=0 accepted=4 refused=0,0,0,0,0,0,0,0,0 walks=3 reads=3 wchits=1 fills=0 kicks=0 undone=0 migrated=0 growths=0 fences=0 invalidated=1 pasum=0000000000002000 tlb=-\n" }
 {}
 
 /// A fence of a space removes the cached ranges of that space.
 #[tactic(auto, unfolding(xl_model::specs::Computing::computing))]
 pub fn a_fence_of_space_1_over_cached_ranges()
     ensures { report rows_alone a_fence_of_space_1_over_cached_ranges_rows
-        a_fence_of_space_1_over_cached_ranges_items ≡ codes "a accesses=3 ok=3 unmapped=0 denied=0 notcanonical=0 accepted=4 refused=0,0,0,0,0,0,0,0,0 walks=3 reads=4 wchits=0 fills=0 kicks=0 undone=0 migrated=0 growths=0 fences=1 invalidated=1 pasum=0000000000002000 tlb=-\n" }
+        a_fence_of_space_1_over_cached_ranges_items
+        ≡ codes "a accesses=3 ok=3 unmapped=0 denied=0 notcanonical=0 accepted=4 refused=0,0,0,0,0,0,0,0,0 walks=3 reads=4 wchits=0 fills=0 kicks=0 undone=0 migrated=0 growths=0 fences=1 invalidated=1 pasum=0000000000002000 tlb=-\n" }
 {}
 
 /// A cached section of 1 GiB is removed when its leaf is displaced.

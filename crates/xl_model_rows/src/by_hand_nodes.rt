@@ -30,7 +30,8 @@ pub fn a_1g_leaf_fills_no_cache()
 #[tactic(auto, unfolding(xl_model::specs::Computing::computing))]
 pub fn a_walk_from_the_middle_fills_below()
     ensures { report rows_alone a_walk_from_the_middle_fills_below_rows
-        a_walk_from_the_middle_fills_below_items ≡ codes "a accesses=2 ok=2 unmapped=0 denied=0 notcanonical=0 accepted=4 refused=0,0,0,0,0,0,0,0,0 walks=2 reads=6 wchits=1 fills=0 kicks=0 undone=0 migrated=0 growths=0 fences=0 invalidated=4 pasum=0000000000001000 tlb=-\n" }
+        a_walk_from_the_middle_fills_below_items ≡ codes
+        "a accesses=2 ok=2 unmapped=0 denied=0 notcanonical=0 accepted=4 refused=0,0,0,0,0,0,0,0,0 walks=2 reads=6 wchits=1 fills=0 kicks=0 undone=0 migrated=0 growths=0 fences=0 invalidated=4 pasum=0000000000001000 tlb=-\n" }
 {}
 
 /// A node tag that hits moves to the front of its cache.
@@ -44,7 +45,8 @@ pub fn a_touch_of_a_node_tag()
 #[tactic(auto, unfolding(xl_model::specs::Computing::computing))]
 pub fn unmapped_pages_below_cached_nodes()
     ensures { report rows_alone unmapped_pages_below_cached_nodes_rows
-        unmapped_pages_below_cached_nodes_items ≡ codes "a accesses=4 ok=1 unmapped=3 denied=0 notcanonical=0 accepted=2 refused=0,0,0,0,0,0,0,0,0 walks=4 reads=6 wchits=2 fills=0 kicks=0 undone=0 migrated=0 growths=0 fences=0 invalidated=2 pasum=0000000000000000 tlb=-\n" }
+        unmapped_pages_below_cached_nodes_items ≡ codes
+        "a accesses=4 ok=1 unmapped=3 denied=0 notcanonical=0 accepted=2 refused=0,0,0,0,0,0,0,0,0 walks=4 reads=6 wchits=2 fills=0 kicks=0 undone=0 migrated=0 growths=0 fences=0 invalidated=2 pasum=0000000000000000 tlb=-\n" }
 {}
 
 /// The number of a freed node is taken again, with the image.
@@ -72,7 +74,8 @@ pub fn words_of_large_leaves()
 #[tactic(auto, unfolding(xl_model::specs::Computing::computing))]
 pub fn a_hit_at_level_0_touches_no_other()
     ensures { report rows_alone a_hit_at_level_0_touches_no_other_rows
-        a_hit_at_level_0_touches_no_other_items ≡ codes "a accesses=5 ok=5 unmapped=0 denied=0 notcanonical=0 accepted=4 refused=0,0,0,0,0,0,0,0,0 walks=5 reads=13 wchits=1 fills=0 kicks=0 undone=0 migrated=0 growths=0 fences=0 invalidated=0 pasum=0000000000006000 tlb=-\n" }
+        a_hit_at_level_0_touches_no_other_items ≡ codes
+        "a accesses=5 ok=5 unmapped=0 denied=0 notcanonical=0 accepted=4 refused=0,0,0,0,0,0,0,0,0 walks=5 reads=13 wchits=1 fills=0 kicks=0 undone=0 migrated=0 growths=0 fences=0 invalidated=0 pasum=0000000000006000 tlb=-\n" }
 {}
 
 /// A protect leaves the tags of the leaf's nodes.

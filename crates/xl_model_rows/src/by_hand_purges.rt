@@ -79,7 +79,8 @@ pub fn a_map_purges_nothing()
 #[tactic(auto, unfolding(xl_model::specs::Computing::computing))]
 pub fn a_refused_command_purges_nothing()
     ensures { report rows_alone a_refused_command_purges_nothing_rows
-        a_refused_command_purges_nothing_items ≡ codes "a accesses=2 ok=2 unmapped=0 denied=0 notcanonical=0 accepted=1 refused=0,0,0,2,0,0,0,0,0 walks=1 reads=3 wchits=0 fills=1 kicks=0 undone=0 migrated=0 growths=0 fences=0 invalidated=0 pasum=0000000000000000 tlb=1/1\n" }
+        a_refused_command_purges_nothing_items ≡ codes
+        "a accesses=2 ok=2 unmapped=0 denied=0 notcanonical=0 accepted=1 refused=0,0,0,2,0,0,0,0,0 walks=1 reads=3 wchits=0 fills=1 kicks=0 undone=0 migrated=0 growths=0 fences=0 invalidated=0 pasum=0000000000000000 tlb=1/1\n" }
 {}
 
 /// A purge takes the leaf from the arrays of every level, and counts each entry.
@@ -163,7 +164,8 @@ pub fn node_tags_at_a_fence_by_page()
 #[tactic(auto, unfolding(xl_model::specs::Computing::computing))]
 pub fn node_tags_at_a_fence_by_space()
     ensures { report rows_alone node_tags_at_a_fence_by_space_rows
-        node_tags_at_a_fence_by_space_items ≡ codes "a accesses=4 ok=4 unmapped=0 denied=0 notcanonical=0 accepted=5 refused=0,0,0,0,0,0,0,0,0 walks=4 reads=10 wchits=1 fills=0 kicks=0 undone=0 migrated=0 growths=0 fences=1 invalidated=2 pasum=0000000000002000 tlb=-\n" }
+        node_tags_at_a_fence_by_space_items ≡ codes
+        "a accesses=4 ok=4 unmapped=0 denied=0 notcanonical=0 accepted=5 refused=0,0,0,0,0,0,0,0,0 walks=4 reads=10 wchits=1 fills=0 kicks=0 undone=0 migrated=0 growths=0 fences=1 invalidated=2 pasum=0000000000002000 tlb=-\n" }
 {}
 
 /// Node tags at a fence of all.

@@ -30,7 +30,8 @@ pub fn an_order_for_fetches_alone()
 #[tactic(auto, unfolding(xl_model::specs::Computing::computing))]
 pub fn a_denied_store_fills_the_data_array()
     ensures { report rows_alone a_denied_store_fills_the_data_array_rows
-        a_denied_store_fills_the_data_array_items ≡ codes "a accesses=5 ok=3 unmapped=0 denied=2 notcanonical=0 accepted=1 refused=0,0,0,0,0,0,0,0,0 walks=2 reads=6 wchits=0 fills=2 kicks=0 undone=0 migrated=0 growths=0 fences=0 invalidated=0 pasum=0000000000000038 tlb=1/1,2/1\n" }
+        a_denied_store_fills_the_data_array_items ≡ codes
+        "a accesses=5 ok=3 unmapped=0 denied=2 notcanonical=0 accepted=1 refused=0,0,0,0,0,0,0,0,0 walks=2 reads=6 wchits=0 fills=2 kicks=0 undone=0 migrated=0 growths=0 fences=0 invalidated=0 pasum=0000000000000038 tlb=1/1,2/1\n" }
 {}
 
 /// An unmapped page leaves the array for fetches and the array for data.
@@ -65,7 +66,8 @@ pub fn a_level_for_the_other_kind()
 #[tactic(auto, unfolding(xl_model::specs::Computing::computing))]
 pub fn a_load_touches_no_fetched_leaf()
     ensures { report rows_alone a_load_touches_no_fetched_leaf_rows
-        a_load_touches_no_fetched_leaf_items ≡ codes "a accesses=8 ok=8 unmapped=0 denied=0 notcanonical=0 accepted=3 refused=0,0,0,0,0,0,0,0,0 walks=6 reads=18 wchits=0 fills=6 kicks=0 undone=0 migrated=0 growths=0 fences=0 invalidated=0 pasum=0000000000006000 tlb=1/5,1/1\n" }
+        a_load_touches_no_fetched_leaf_items ≡ codes
+        "a accesses=8 ok=8 unmapped=0 denied=0 notcanonical=0 accepted=3 refused=0,0,0,0,0,0,0,0,0 walks=6 reads=18 wchits=0 fills=6 kicks=0 undone=0 migrated=0 growths=0 fences=0 invalidated=0 pasum=0000000000006000 tlb=1/5,1/1\n" }
 {}
 
 /// Two arrays of one order in one level, one for fetches and one for loads and stores.

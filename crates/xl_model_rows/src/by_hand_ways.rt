@@ -13,7 +13,8 @@ pub fn below_the_rehash_pointer()
     ensures known { report rows_alone below_the_rehash_pointer_rows below_the_rehash_pointer_items
         ≡ codes "a accesses=2 ok=2 unmapped=0 denied=0 notcanonical=0 accepted=4 refused=0,0,0,0,0,0,0,0,0 walks=2 reads=12 wchits=0 fills=0 kicks=1 undone=0 migrated=2 growths=2 fences=0 invalidated=0 pasum=0000000000000000 tlb=-\n" }
     ensures standing { k4_ways (run below_the_rehash_pointer_row
-        below_the_rehash_pointer_items).table.shape ≡ way_at 2 0 false (in_slot 1 1 ∷ in_slot 2 18 ∷ []) ∷ way_at 1 0 true (in_slot 1 3 ∷ in_slot 0 14 ∷ []) ∷ [] }
+        below_the_rehash_pointer_items).table.shape ≡ way_at 2 0 false
+        (in_slot 1 1 ∷ in_slot 2 18 ∷ []) ∷ way_at 1 0 true (in_slot 1 3 ∷ in_slot 0 14 ∷ []) ∷ [] }
 {}
 
 /// The old slot of a migrated key is free.
@@ -22,7 +23,8 @@ pub fn the_old_slot_is_free()
     ensures known { report rows_alone the_old_slot_is_free_rows the_old_slot_is_free_items
         ≡ codes "a accesses=2 ok=2 unmapped=0 denied=0 notcanonical=0 accepted=4 refused=0,0,0,0,0,0,0,0,0 walks=2 reads=12 wchits=0 fills=0 kicks=0 undone=0 migrated=2 growths=1 fences=0 invalidated=0 pasum=0000000000003000 tlb=-\n" }
     ensures standing { k4_ways (run the_old_slot_is_free_row the_old_slot_is_free_items).table.shape
-        ≡ way_at 2 0 false (in_slot 1 1 ∷ in_slot 0 6 ∷ in_slot 2 14 ∷ []) ∷ way_at 1 0 false (in_slot 1 3 ∷ []) ∷ [] }
+        ≡ way_at 2 0 false (in_slot 1 1 ∷ in_slot 0 6 ∷ in_slot 2 14 ∷ []) ∷ way_at 1 0 false
+        (in_slot 1 3 ∷ []) ∷ [] }
 {}
 
 /// After a failed attempt the way with the least s grows, of several the lowest.
@@ -31,16 +33,19 @@ pub fn which_way_grows()
     ensures known { report rows_alone which_way_grows_rows which_way_grows_items
         ≡ codes "a accesses=0 ok=0 unmapped=0 denied=0 notcanonical=0 accepted=5 refused=0,0,0,0,0,0,0,0,0 walks=0 reads=0 wchits=0 fills=0 kicks=4 undone=3 migrated=3 growths=3 fences=0 invalidated=0 pasum=0000000000000000 tlb=-\n" }
     ensures standing { k4_ways (run which_way_grows_row which_way_grows_items).table.shape
-        ≡ way_at 1 0 false (in_slot 0 2 ∷ []) ∷ way_at 1 0 false (in_slot 1 8 ∷ in_slot 0 10 ∷ []) ∷ way_at 1 0 false (in_slot 1 0 ∷ in_slot 0 1 ∷ []) ∷ [] }
+        ≡ way_at 1 0 false (in_slot 0 2 ∷ []) ∷ way_at 1 0 false (in_slot 1 8 ∷ in_slot 0 10 ∷ [])
+        ∷ way_at 1 0 false (in_slot 1 0 ∷ in_slot 0 1 ∷ []) ∷ [] }
 {}
 
 /// A forced growth ends one that has begun, and counts none.
 #[tactic(auto, unfolding(xl_model::specs::Computing::computing))]
 pub fn a_forced_growth_of_a_growing_way()
     ensures known { report rows_alone a_forced_growth_of_a_growing_way_rows
-        a_forced_growth_of_a_growing_way_items ≡ codes "a accesses=0 ok=0 unmapped=0 denied=0 notcanonical=0 accepted=5 refused=0,0,0,0,0,0,0,0,0 walks=0 reads=0 wchits=0 fills=0 kicks=1 undone=1 migrated=3 growths=2 fences=0 invalidated=0 pasum=0000000000000000 tlb=-\n" }
+        a_forced_growth_of_a_growing_way_items ≡ codes
+        "a accesses=0 ok=0 unmapped=0 denied=0 notcanonical=0 accepted=5 refused=0,0,0,0,0,0,0,0,0 walks=0 reads=0 wchits=0 fills=0 kicks=1 undone=1 migrated=3 growths=2 fences=0 invalidated=0 pasum=0000000000000000 tlb=-\n" }
     ensures standing { k4_ways (run a_forced_growth_of_a_growing_way_row
-        a_forced_growth_of_a_growing_way_items).table.shape ≡ way_at 2 0 false (in_slot 1 1 ∷ in_slot 0 6 ∷ in_slot 3 7 ∷ []) ∷ way_at 1 1 true (in_slot 0 0 ∷ in_slot 1 3 ∷ []) ∷ [] }
+        a_forced_growth_of_a_growing_way_items).table.shape ≡ way_at 2 0 false
+        (in_slot 1 1 ∷ in_slot 0 6 ∷ in_slot 3 7 ∷ []) ∷ way_at 1 1 true (in_slot 0 0 ∷ in_slot 1 3 ∷ []) ∷ [] }
 {}
 
 /// Displaced keys continue to the next of three ways.
@@ -49,7 +54,8 @@ pub fn kicks_in_three_ways()
     ensures known { report rows_alone kicks_in_three_ways_rows kicks_in_three_ways_items
         ≡ codes "a accesses=3 ok=3 unmapped=0 denied=0 notcanonical=0 accepted=3 refused=0,0,0,0,0,0,0,0,0 walks=3 reads=27 wchits=0 fills=0 kicks=3 undone=0 migrated=0 growths=0 fences=0 invalidated=0 pasum=0000000000003000 tlb=-\n" }
     ensures standing { k4_ways (run kicks_in_three_ways_row kicks_in_three_ways_items).table.shape
-        ≡ way_at 0 0 false (in_slot 0 3 ∷ []) ∷ way_at 0 0 false (in_slot 0 1 ∷ []) ∷ way_at 0 0 false (in_slot 0 5 ∷ []) ∷ [] }
+        ≡ way_at 0 0 false (in_slot 0 3 ∷ []) ∷ way_at 0 0 false (in_slot 0 1 ∷ [])
+        ∷ way_at 0 0 false (in_slot 0 5 ∷ []) ∷ [] }
 {}
 
 /// Displaced keys continue to the next of four ways.
@@ -58,16 +64,19 @@ pub fn kicks_in_four_ways()
     ensures known { report rows_alone kicks_in_four_ways_rows kicks_in_four_ways_items
         ≡ codes "a accesses=1 ok=1 unmapped=0 denied=0 notcanonical=0 accepted=4 refused=0,0,0,0,0,0,0,0,0 walks=1 reads=12 wchits=0 fills=0 kicks=6 undone=0 migrated=0 growths=0 fences=0 invalidated=0 pasum=0000000000000000 tlb=-\n" }
     ensures standing { k4_ways (run kicks_in_four_ways_row kicks_in_four_ways_items).table.shape
-        ≡ way_at 0 0 false (in_slot 0 13 ∷ []) ∷ way_at 0 0 false (in_slot 0 6 ∷ []) ∷ way_at 0 0 false (in_slot 0 0 ∷ []) ∷ way_at 0 0 false (in_slot 0 14 ∷ []) ∷ [] }
+        ≡ way_at 0 0 false (in_slot 0 13 ∷ []) ∷ way_at 0 0 false (in_slot 0 6 ∷ [])
+        ∷ way_at 0 0 false (in_slot 0 0 ∷ []) ∷ way_at 0 0 false (in_slot 0 14 ∷ []) ∷ [] }
 {}
 
 /// Growths, migrations and kicks before a refusal at the cap stay, and nothing else changes.
 #[tactic(auto, unfolding(xl_model::specs::Computing::computing))]
 pub fn growths_before_a_refusal_stay()
     ensures known { report rows_alone growths_before_a_refusal_stay_rows
-        growths_before_a_refusal_stay_items ≡ codes "a accesses=5 ok=4 unmapped=1 denied=0 notcanonical=0 accepted=3 refused=0,0,0,0,0,0,0,0,1 walks=5 reads=14 wchits=8 fills=0 kicks=3 undone=3 migrated=2 growths=2 fences=0 invalidated=0 pasum=0000000000003000 tlb=-\n" }
+        growths_before_a_refusal_stay_items ≡ codes
+        "a accesses=5 ok=4 unmapped=1 denied=0 notcanonical=0 accepted=3 refused=0,0,0,0,0,0,0,0,1 walks=5 reads=14 wchits=8 fills=0 kicks=3 undone=3 migrated=2 growths=2 fences=0 invalidated=0 pasum=0000000000003000 tlb=-\n" }
     ensures standing { k4_ways (run growths_before_a_refusal_stay_row
-        growths_before_a_refusal_stay_items).table.shape ≡ way_at 1 0 false (in_slot 1 1 ∷ in_slot 0 6 ∷ []) ∷ way_at 1 0 false (in_slot 0 0 ∷ []) ∷ [] }
+        growths_before_a_refusal_stay_items).table.shape ≡ way_at 1 0 false
+        (in_slot 1 1 ∷ in_slot 0 6 ∷ []) ∷ way_at 1 0 false (in_slot 0 0 ∷ []) ∷ [] }
 {}
 
 /// A moved leaf's old key counts when a growth is judged.
@@ -76,7 +85,8 @@ pub fn a_moved_key_still_counts()
     ensures known { report rows_alone a_moved_key_still_counts_rows a_moved_key_still_counts_items
         ≡ codes "a accesses=0 ok=0 unmapped=0 denied=0 notcanonical=0 accepted=2 refused=0,0,0,0,0,0,0,0,0 walks=0 reads=0 wchits=0 fills=0 kicks=0 undone=0 migrated=0 growths=1 fences=0 invalidated=0 pasum=0000000000000000 tlb=-\n" }
     ensures standing { k4_ways (run a_moved_key_still_counts_row
-        a_moved_key_still_counts_items).table.shape ≡ way_at 1 0 true (in_slot 1 1 ∷ []) ∷ way_at 1 0 false ([]) ∷ [] }
+        a_moved_key_still_counts_items).table.shape ≡ way_at 1 0 true (in_slot 1 1 ∷ [])
+        ∷ way_at 1 0 false ([]) ∷ [] }
 {}
 
 /// The last slots of a growth may be fewer than are migrated at once.
@@ -85,46 +95,54 @@ pub fn the_last_slots_of_a_growth()
     ensures known { report rows_alone the_last_slots_of_a_growth_rows
         the_last_slots_of_a_growth_items ≡ codes "a accesses=0 ok=0 unmapped=0 denied=0 notcanonical=0 accepted=4 refused=0,0,0,0,0,0,0,0,0 walks=0 reads=0 wchits=0 fills=0 kicks=0 undone=0 migrated=4 growths=2 fences=0 invalidated=0 pasum=0000000000000000 tlb=-\n" }
     ensures standing { k4_ways (run the_last_slots_of_a_growth_row
-        the_last_slots_of_a_growth_items).table.shape ≡ way_at 3 0 false (in_slot 1 1 ∷ in_slot 7 7 ∷ []) ∷ way_at 2 0 true (in_slot 2 2 ∷ in_slot 1 3 ∷ []) ∷ [] }
+        the_last_slots_of_a_growth_items).table.shape ≡ way_at 3 0 false
+        (in_slot 1 1 ∷ in_slot 7 7 ∷ []) ∷ way_at 2 0 true (in_slot 2 2 ∷ in_slot 1 3 ∷ []) ∷ [] }
 {}
 
 /// A way may end a growth and begin the next at one insertion.
 #[tactic(auto, unfolding(xl_model::specs::Computing::computing))]
 pub fn a_growth_ends_and_the_next_begins()
     ensures known { report rows_alone a_growth_ends_and_the_next_begins_rows
-        a_growth_ends_and_the_next_begins_items ≡ codes "a accesses=0 ok=0 unmapped=0 denied=0 notcanonical=0 accepted=2 refused=0,0,0,0,0,0,0,0,0 walks=0 reads=0 wchits=0 fills=0 kicks=0 undone=0 migrated=1 growths=3 fences=0 invalidated=0 pasum=0000000000000000 tlb=-\n" }
+        a_growth_ends_and_the_next_begins_items ≡ codes
+        "a accesses=0 ok=0 unmapped=0 denied=0 notcanonical=0 accepted=2 refused=0,0,0,0,0,0,0,0,0 walks=0 reads=0 wchits=0 fills=0 kicks=0 undone=0 migrated=1 growths=3 fences=0 invalidated=0 pasum=0000000000000000 tlb=-\n" }
     ensures standing { k4_ways (run a_growth_ends_and_the_next_begins_row
-        a_growth_ends_and_the_next_begins_items).table.shape ≡ way_at 1 0 true (in_slot 1 1 ∷ []) ∷ way_at 0 0 true (in_slot 0 0 ∷ []) ∷ [] }
+        a_growth_ends_and_the_next_begins_items).table.shape ≡ way_at 1 0 true (in_slot 1 1 ∷ [])
+        ∷ way_at 0 0 true (in_slot 0 0 ∷ []) ∷ [] }
 {}
 
 /// An insertion of another order migrates nothing.
 #[tactic(auto, unfolding(xl_model::specs::Computing::computing))]
 pub fn each_order_has_ways_of_its_own()
     ensures known { report rows_alone each_order_has_ways_of_its_own_rows
-        each_order_has_ways_of_its_own_items ≡ codes "a accesses=0 ok=0 unmapped=0 denied=0 notcanonical=0 accepted=3 refused=0,0,0,0,0,0,0,0,0 walks=0 reads=0 wchits=0 fills=0 kicks=0 undone=0 migrated=1 growths=3 fences=0 invalidated=0 pasum=0000000000000000 tlb=-\n" }
+        each_order_has_ways_of_its_own_items ≡ codes
+        "a accesses=0 ok=0 unmapped=0 denied=0 notcanonical=0 accepted=3 refused=0,0,0,0,0,0,0,0,0 walks=0 reads=0 wchits=0 fills=0 kicks=0 undone=0 migrated=1 growths=3 fences=0 invalidated=0 pasum=0000000000000000 tlb=-\n" }
     ensures standing { k4_ways (run each_order_has_ways_of_its_own_row
-        each_order_has_ways_of_its_own_items).table.shape ≡ way_at 1 1 true (in_slot 1 1 ∷ []) ∷ way_at 1 0 true (in_slot 1 3 ∷ []) ∷ [] }
+        each_order_has_ways_of_its_own_items).table.shape ≡ way_at 1 1 true (in_slot 1 1 ∷ [])
+        ∷ way_at 1 0 true (in_slot 1 3 ∷ []) ∷ [] }
 {}
 
 /// A leaf that is displaced twice, back to its own way, keeps its cached section.
 #[tactic(auto, unfolding(xl_model::specs::Computing::computing))]
 pub fn a_leaf_displaced_back_to_its_way()
     ensures { report rows_alone a_leaf_displaced_back_to_its_way_rows
-        a_leaf_displaced_back_to_its_way_items ≡ codes "a accesses=6 ok=6 unmapped=0 denied=0 notcanonical=0 accepted=4 refused=0,0,0,0,0,0,0,0,0 walks=6 reads=15 wchits=6 fills=0 kicks=5 undone=0 migrated=0 growths=0 fences=0 invalidated=2 pasum=0000000000c00000 tlb=-\n" }
+        a_leaf_displaced_back_to_its_way_items ≡ codes
+        "a accesses=6 ok=6 unmapped=0 denied=0 notcanonical=0 accepted=4 refused=0,0,0,0,0,0,0,0,0 walks=6 reads=15 wchits=6 fills=0 kicks=5 undone=0 migrated=0 growths=0 fences=0 invalidated=2 pasum=0000000000c00000 tlb=-\n" }
 {}
 
 /// The walk of a 1 GiB leaf fills no 2 MiB section.
 #[tactic(auto, unfolding(xl_model::specs::Computing::computing))]
 pub fn a_1g_leaf_beside_a_cached_section()
     ensures { report rows_alone a_1g_leaf_beside_a_cached_section_rows
-        a_1g_leaf_beside_a_cached_section_items ≡ codes "a accesses=4 ok=4 unmapped=0 denied=0 notcanonical=0 accepted=2 refused=0,0,0,0,0,0,0,0,0 walks=4 reads=15 wchits=3 fills=0 kicks=0 undone=0 migrated=0 growths=0 fences=0 invalidated=0 pasum=0000000080005000 tlb=-\n" }
+        a_1g_leaf_beside_a_cached_section_items ≡ codes
+        "a accesses=4 ok=4 unmapped=0 denied=0 notcanonical=0 accepted=2 refused=0,0,0,0,0,0,0,0,0 walks=4 reads=15 wchits=3 fills=0 kicks=0 undone=0 migrated=0 growths=0 fences=0 invalidated=0 pasum=0000000080005000 tlb=-\n" }
 {}
 
 /// A map that changes the bits of a cached 1 GiB section removes it.
 #[tactic(auto, unfolding(xl_model::specs::Computing::computing))]
 pub fn a_map_changes_a_cached_section()
     ensures { report rows_alone a_map_changes_a_cached_section_rows
-        a_map_changes_a_cached_section_items ≡ codes "a accesses=4 ok=4 unmapped=0 denied=0 notcanonical=0 accepted=2 refused=0,0,0,0,0,0,0,0,0 walks=4 reads=13 wchits=4 fills=0 kicks=0 undone=0 migrated=0 growths=0 fences=0 invalidated=1 pasum=0000000000400000 tlb=-\n" }
+        a_map_changes_a_cached_section_items ≡ codes
+        "a accesses=4 ok=4 unmapped=0 denied=0 notcanonical=0 accepted=2 refused=0,0,0,0,0,0,0,0,0 walks=4 reads=13 wchits=4 fills=0 kicks=0 undone=0 migrated=0 growths=0 fences=0 invalidated=1 pasum=0000000000400000 tlb=-\n" }
 {}
 
 /// Sections stay while their bits are as before, and leave with the last leaf.
@@ -159,7 +177,8 @@ pub fn a_move_changes_sections()
 #[tactic(auto, unfolding(xl_model::specs::Computing::computing))]
 pub fn a_large_leaf_known_by_one_section()
     ensures { report rows_alone a_large_leaf_known_by_one_section_rows
-        a_large_leaf_known_by_one_section_items ≡ codes "a accesses=2 ok=2 unmapped=0 denied=0 notcanonical=0 accepted=1 refused=0,0,0,0,0,0,0,0,0 walks=2 reads=7 wchits=1 fills=0 kicks=0 undone=0 migrated=0 growths=0 fences=0 invalidated=0 pasum=0000000000001000 tlb=-\n" }
+        a_large_leaf_known_by_one_section_items ≡ codes
+        "a accesses=2 ok=2 unmapped=0 denied=0 notcanonical=0 accepted=1 refused=0,0,0,0,0,0,0,0,0 walks=2 reads=7 wchits=1 fills=0 kicks=0 undone=0 migrated=0 growths=0 fences=0 invalidated=0 pasum=0000000000001000 tlb=-\n" }
 {}
 
 /// The same page of two spaces has two keys.
@@ -168,7 +187,8 @@ pub fn keys_of_two_spaces()
     ensures known { report rows_alone keys_of_two_spaces_rows keys_of_two_spaces_items
         ≡ codes "a accesses=2 ok=2 unmapped=0 denied=0 notcanonical=0 accepted=3 refused=0,0,0,0,0,0,0,0,0 walks=2 reads=12 wchits=0 fills=0 kicks=0 undone=0 migrated=0 growths=0 fences=0 invalidated=0 pasum=0000000000001000 tlb=-\n" }
     ensures standing { k4_ways (run keys_of_two_spaces_row keys_of_two_spaces_items).table.shape
-        ≡ way_at 4 0 false (in_slot 1 1 ∷ []) ∷ way_at 4 0 false (in_slot 1 35184372088833 ∷ []) ∷ [] }
+        ≡ way_at 4 0 false (in_slot 1 1 ∷ []) ∷ way_at 4 0 false (in_slot 1 35184372088833 ∷ [])
+        ∷ [] }
 {}
 
 /// The hashes of the keys 0 and 1234567 in the first three ways.

@@ -16,11 +16,6 @@ pub at_end : {S C : Type 0} (said : S → List (List ℕ) → Said S C) (s : S) 
 at_end said s number at text items whole past kept =
     sym kept ∙ ap (λ lines. after items (lines_read said s number lines)) (no_lines text at past) ∙ ap (λ cs. Ok (s, cs)) (append-nil items)
 
--- nothing before a reading is that reading
-pub nothing_before : {S C : Type 0} (r : Reading S C) → after [] r ≡ r
-nothing_before (Ok (s, cs)) = refl
-nothing_before (Err f) = refl
-
 -- what a command of a run's script keeps
 abbrev Good : Result Command Reason → Type 0
 Good (Ok c) = IsPlaced c

@@ -3,7 +3,7 @@ pub use Rattle.std.proofs.Common.{◌%◌, ◌&&◌, ◌*◌, ◌++◌, ◌+◌,
 pub use Rattle.std.proofs.Math.ListN.{get_or-map}
 pub use Rattle.std.proofs.Math.Nat.{mod-lt, mod-mod_of_dvd, pow-le-pow_right}
 pub use Rattle.std.proofs.lemmas.Bool.Decides.{nat_tests}
-pub use Rattle.std.proofs.lemmas.List.{append-nil, drop_all, get_or-set_other, get_or-set_same, get_or_default, length-map, length-set, map-set, nil_from_length, set-get_or, take-map, take_all}
+pub use Rattle.std.proofs.lemmas.List.{append-nil, drop_all, get_or-set_other, get_or-set_same, length-map, length-set, map-set, nil_from_length, set-get_or, take-map, take_all}
 pub use Rattle.std.proofs.lemmas.List.Sums.{sum_by-cons}
 pub use Rattle.std.specs.List.{All, list_all}
 pub use Rattle.std.specs.Option.{IfNone, IfSome}
@@ -40,13 +40,12 @@ pub use Rattle.xl_tlb.specs.Equal.{is_equal, keeps_leaf}
 pub use Rattle.xl_tlb.specs.Founds.{found_leaf, replied_of}
 pub use Rattle.xl_tlb.specs.Fronts.{FirstLacks, FrontsStay, HasEights, IsFront, IsFrontHit, IsLargeTouch, IsTouch, LacksSmall}
 pub use Rattle.xl_tlb.specs.Held.{Counts, IsKnown, IsSmall}
-pub use Rattle.xl_tlb.specs.Hits.{hit_touched, leaf_hit, word_touched}
+pub use Rattle.xl_tlb.specs.Hits.{leaf_hit, word_touched}
 pub use Rattle.xl_tlb.specs.Known.{IsKey, Knows, no_key}
 pub use Rattle.xl_tlb.specs.Lookup.{IsFill, IsFilled, IsLookup, IsTouched}
 pub use Rattle.xl_tlb.specs.Shapes.{all_first, Alone, alone_at, AreJoint, AreSplit, AreThree, AreTwo, AtBoth, AtFetch, AtKind, AtLoad, AtOne, AtStore, Both, first_of_kind, FitsSplit, IsAloneFill, IsAloneLook, IsKept, IsKnownAnswer, IsKnownWord, IsOfPair, IsOne, IsPairFill, IsPairLook}
 pub use Rattle.xl_tlb.specs.Tlbs.{bumped_where, fills_replied, hits_up_to, IsRising, IsTlb, leaf_replied, looked_arrays, misses_up_to, NoneBelow, Replied, replied, spec_of, tlb_of, TlbState}
 unfoldable pub use Rattle.xl_tlb.specs.Tlbs.{tlb_fenced, tlb_filled, tlb_looked, tlb_purged}
-pub use Rattle.xl_tlb.specs.declared.coding.Hit.{Hit}
 pub use Rattle.xl_tlb.specs.declared.lookup.Lookup.{Lookup}
 pub use Rattle.xl_tlb.specs.declared.newest.MruPages.{MruPages}
 pub use Rattle.xl_tlb.specs.declared.pair.Seen.{Seen}

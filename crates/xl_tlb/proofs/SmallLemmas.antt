@@ -1,5 +1,5 @@
 -- Arrays that hold leaves of 4 KiB alone.
-use Rattle.xl_tlb.proofs.Common.{◌∙◌, ◌∷◌, ◌≡◌, [], All, ap, array_filled, array_hit, array_touched, array_without, Bool, covers_as, false, filled_where, find, first_found, found_as, get_or, Hit, hit_touched, IfNone, IfSome, in_front, IsSmall, Leaf, leaf_hit, leaf_with, List, map, None, Option, Order, purged, refl, replicate, same_order, set_at, set_number, Some, subst, suc, sym, takes_order, TlbArray, touched, true, where_taken, with_newest, without_first, word_touched, zero, ℕ}
+use Rattle.xl_tlb.proofs.Common.{◌∙◌, ◌∷◌, ◌≡◌, [], All, ap, array_filled, array_hit, array_touched, array_without, Bool, covers_as, false, filled_where, find, first_found, found_as, get_or, IfNone, IfSome, in_front, IsSmall, Leaf, leaf_with, List, map, None, Option, Order, purged, refl, replicate, same_order, set_at, set_number, Some, subst, suc, sym, takes_order, TlbArray, touched, true, where_taken, with_newest, without_first, word_touched, zero, ℕ}
 use Rattle.std.proofs.lemmas.List.Elements.{All-cons, All-filter, All-head, All-nil, All-replicate, All-set, All-tail, All-take}
 use Rattle.xl_model.specs.declared.address.Order.TheVariants as order
 
@@ -91,11 +91,6 @@ purged-small p a s = purged-all p a.sets s
 
 pub opened-small : (n : ℕ) → All (All IsSmall) (replicate n [])
 opened-small n = All-replicate (All IsSmall) n [] (All-nil IsSmall)
-
--- a look leaves what there was
-pub looked-small : (space page : ℕ) (o : Option Hit) (a b : TlbArray) → IfSome o (λ hit. b ≡ hit_touched space page hit a) → IfNone o (b ≡ a) → All (All IsSmall) a.sets → All (All IsSmall) b.sets
-looked-small space page None a b h n s = subst (λ (z : TlbArray). All (All IsSmall) z.sets) (sym n) s
-looked-small space page (Some hit) a b h n s = subst (λ (z : TlbArray). All (All IsSmall) z.sets) (sym h) (touched-small space page (leaf_hit space page hit) a s)
 
 pub word-small : (space page : ℕ) (o : Order) (found : Option ℕ) (a b : TlbArray) → IfSome found (λ w. b ≡ word_touched space page o w a) → IfNone found (b ≡ a) → All (All IsSmall) a.sets → All (All IsSmall) b.sets
 word-small space page o None a b h n s = subst (λ (z : TlbArray). All (All IsSmall) z.sets) (sym n) s

@@ -40,7 +40,7 @@ pub(crate) fn first_and_rest<T>(items: &mut [T]) -> (&mut T, &mut [T])
 
 /// Looks for the leaf of 4 KiB that is sought in the second array, where the first one misses its
 /// page, which is filled then. Unknown where a larger leaf may answer; then nothing changes.
-#[inline(always)]
+#[inline(never)]
 fn look_second(first: &mut AnyArray, set: usize, second: &mut AnyArray, lookup: Lookup) -> Seen
     requires at { IsAt order_of.K4 set lookup first.old.spec }
     requires lacks { LacksSmall lookup.space lookup.page first.old }
