@@ -2,7 +2,7 @@
 
 ghost use Rattle.std.specs.Prelude.{◌≡◌, IfSome};
 ghost use Rattle.xl_chart.specs.Follows.{followed, page_reach};
-ghost use Rattle.xl_tlb.specs.Arrays.{IsFit};
+ghost use Rattle.xl_array.specs.Arrays.{IsFit};
 ghost use Rattle.xl_curve_model.specs.CurveRun.{curve_looked_where};
 
 use xl_curve::Curve;

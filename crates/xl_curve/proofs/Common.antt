@@ -8,9 +8,12 @@ pub use Rattle.std.specs.Cmp.{first_so, second_so}
 pub use Rattle.std.specs.Fn.{FnReturnsAt}
 pub use Rattle.std.specs.List.{list_all, range_with_len, remove, sum}
 pub use Rattle.std.specs.Prelude.{IfSome}
+pub use Rattle.xl_array.proofs.DropLemmas.{each_order}
+pub use Rattle.xl_array.specs.Arrays.{covers_anywhere, covers_anywhere_as, IsFit}
 pub use Rattle.xl_curve_model.proofs.SameLeafLemmas.{found_same, leaf_same, leaf_self, order_same}
 pub use Rattle.xl_curve_model.specs.Curves.{HitCurve, hits_of, looked_for, opening_point, Point, point_accessed, point_without, same_leaf, spec_of_width}
 unfoldable pub use Rattle.xl_curve_model.specs.Curves.{curve_accessed, curve_missed, curve_without, hits_at, opening_curve}
+pub use Rattle.xl_list_lemmas.proofs.MemberLemmas.{same-tests}
 pub use Rattle.xl_model.specs.Addresses.{level_of, order_at, pages_of, same_order}
 pub use Rattle.xl_model.specs.Mapping.{covers, is_leaf}
 pub use Rattle.xl_model.specs.Recency.{in_front, purged, touched, with_newest, without_first}
@@ -19,8 +22,6 @@ unfoldable pub use Rattle.xl_model.specs.Tlb.{array_filled}
 pub use Rattle.xl_model.specs.declared.address.Order.{Order}
 pub use Rattle.xl_model.specs.declared.leaf.Leaf.{Leaf}
 pub use Rattle.xl_recency.specs.Lists.{IsTest}
-pub use Rattle.xl_tlb.proofs.DropLemmas.{each_order}
-pub use Rattle.xl_tlb.specs.Arrays.{covers_anywhere, covers_anywhere_as, IsFit}
 pub use Rattle.xl_curve.specs.Places.{AreApart, AreFewer, AreMarks, AreRanks, AreThinned, at_rank, distance, further, gap, gives_way, guided, HasRank, held, hole_where, is_vacant, IsFirst, IsGap, IsGuide, IsNamed, IsNeither, IsSameOrHole, IsSolid, IsStack, IsThinned, mark_of, mark_unless, moved, place_without, places_of, same_words, shifted, vacated}
 unfoldable pub use Rattle.xl_curve.specs.Places.{in_turn, leaf_in, place_of}
 pub use Rattle.xl_curve.specs.Views.{counted, hits_below, is_placed, IsCurve, IsRemovedIn, point_at, removed, set_of, with_front, with_removed}

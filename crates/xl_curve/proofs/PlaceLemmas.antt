@@ -1,8 +1,8 @@
 -- The two words of a place, and its leaf.
-use Rattle.xl_curve.proofs.Common.{◌%◌, ◌&&◌, ◌*◌, ◌+◌, ◌/◌, ◌<◌, ◌==◌, ◌^◌, ◌∙◌, ◌≡◌, ap, arith, Bool, false, is_leaf, is_vacant, IsFit, IsNamed, Leaf, leaf_in, level_of, nat_tests, Order, order_at, Place, refl, same_leaf, same_words, sym, ℕ}
+use Rattle.xl_curve.proofs.Common.{◌%◌, ◌&&◌, ◌*◌, ◌+◌, ◌/◌, ◌<◌, ◌==◌, ◌^◌, ◌∙◌, ◌≡◌, ap, arith, Bool, false, is_leaf, is_vacant, IsFit, IsNamed, Leaf, leaf_in, level_of, nat_tests, Order, order_at, Place, refl, same-tests, same_leaf, same_words, sym, ℕ}
+use Rattle.xl_array.proofs.TagLemmas.{low_level}
 use Rattle.xl_model.proofs.CodeLemmas.{at-level, frame-back, level-at, perm-back}
 use Rattle.xl_model.specs.LeafWords.{perm_code}
-use Rattle.xl_tlb.proofs.TagLemmas.{both, low_level}
 
 -- the parts of a tag
 parts : (first space level tag : ℕ) → space < 64 → level < 3 → tag ≡ (first * 64 + space) * 3 + level
@@ -27,7 +27,7 @@ solid leaf p fit t =
 
 -- one number has space, first page and order
 pub same_tag : (a b : ℕ) → (b == a) ≡ ((b / 3 % 64 == a / 3 % 64) && ((b / 3 / 64 == a / 3 / 64) && (b % 3 == a % 3)))
-same_tag a b = both _ _ (λ t. grind (arith, nat_tests)) (λ t. grind (arith, nat_tests))
+same_tag a b = same-tests _ _ (λ t. grind (arith, nat_tests)) (λ t. grind (arith, nat_tests))
 
 -- a tag of these parts isn't a hole's
 pub tag_solid : (first space level tag : ℕ) → first < 2 ^ 52 → space < 64 → level < 3 → tag ≡ (first * 64 + space) * 3 + level → (tag == 18446744073709551615) ≡ false

@@ -1,10 +1,5 @@
 -- Places by the ranks of their slots.
-use Rattle.xl_curve.proofs.Common.{if◌then◌else◌, ◌++◌, ◌+◌, ◌-◌, ◌<◌, ◌==◌, ◌∙◌, ◌∷◌, ◌≡◌, ◌≢◌, ◌≤◌, [], ap, AreApart, AreRanks, AreThinned, arith, at_rank, Bool, drop, drop-set-lt, ext_get_or, false, fill_by_all, first_so, get_or, get_or-append_right, get_or-drop, get_or-map, get_or-map-range_with_len, get_or-replicate, get_or-set_other, get_or-set_same, get_or-take, get_or_append_left, HasRank, in_turn, IsFirst, IsSameOrHole, IsThinned, length, length-append, length-drop, length-map-range_with_len, length-replicate, length-set, length-take-le, List, list_all, map, moved, nat_lt, nat_tests, None, Option, range_with_len, refl, remove, replicate, second_so, set, suc, sym, take, take-set, true, zero, ℕ}
-
-both : (a b : Bool) → (a ≡ true → b ≡ true) → (b ≡ true → a ≡ true) → a ≡ b
-both true b f g = sym (f refl)
-both false true f g = g refl
-both false false f g = refl
+use Rattle.xl_curve.proofs.Common.{if◌then◌else◌, ◌++◌, ◌+◌, ◌-◌, ◌<◌, ◌==◌, ◌∙◌, ◌∷◌, ◌≡◌, ◌≢◌, ◌≤◌, [], ap, AreApart, AreRanks, AreThinned, arith, at_rank, Bool, drop, drop-set-lt, ext_get_or, false, fill_by_all, first_so, get_or, get_or-append_right, get_or-drop, get_or-map, get_or-map-range_with_len, get_or-replicate, get_or-set_other, get_or-set_same, get_or-take, get_or_append_left, HasRank, in_turn, IsFirst, IsSameOrHole, IsThinned, length, length-append, length-drop, length-map-range_with_len, length-replicate, length-set, length-take-le, List, list_all, map, moved, nat_lt, nat_tests, None, Option, range_with_len, refl, remove, replicate, same-tests, second_so, set, suc, sym, take, take-set, true, zero, ℕ}
 
 pub each_in_range : {X Y : Type 0} (h : X → Y) (f : ℕ → X) (g : ℕ → Y) (a n : ℕ) → ((w : ℕ) → a ≤ w → w < a + n → h (f w) ≡ g w)
     → map h (map f (range_with_len a n)) ≡ map g (range_with_len a n)
@@ -101,11 +96,11 @@ moved_back rank here zero = go (here == rank) (nat_lt here rank) refl refl
 moved_back rank here (suc k) = go (here == rank) (nat_lt here rank) (nat_lt k rank) refl refl refl
   where
     go : (a b c : Bool) → (here == rank) ≡ a → nat_lt here rank ≡ b → nat_lt k rank ≡ c → (moved rank here == suc k) ≡ (here == back rank (suc k))
-    go true b true e f g = rw (e, g) (both _ _ (λ t. grind (arith, nat_tests)) (λ t. grind (arith, nat_tests)))
-    go true b false e f g = rw (e, g) (both _ _ (λ t. grind (arith, nat_tests)) (λ t. grind (arith, nat_tests)))
-    go false true true e f g = rw (e, f, g) (both _ _ (λ t. grind (arith, nat_tests)) (λ t. grind (arith, nat_tests)))
-    go false true false e f g = rw (e, f, g) (both _ _ (λ t. grind (arith, nat_tests)) (λ t. grind (arith, nat_tests)))
-    go false false true e f g = rw (e, f, g) (both _ _ (λ t. grind (arith, nat_tests)) (λ t. grind (arith, nat_tests)))
+    go true b true e f g = rw (e, g) (same-tests _ _ (λ t. grind (arith, nat_tests)) (λ t. grind (arith, nat_tests)))
+    go true b false e f g = rw (e, g) (same-tests _ _ (λ t. grind (arith, nat_tests)) (λ t. grind (arith, nat_tests)))
+    go false true true e f g = rw (e, f, g) (same-tests _ _ (λ t. grind (arith, nat_tests)) (λ t. grind (arith, nat_tests)))
+    go false true false e f g = rw (e, f, g) (same-tests _ _ (λ t. grind (arith, nat_tests)) (λ t. grind (arith, nat_tests)))
+    go false false true e f g = rw (e, f, g) (same-tests _ _ (λ t. grind (arith, nat_tests)) (λ t. grind (arith, nat_tests)))
     go false false false e f g = rw (e, f, g) refl
 
 back_below : (rank k : ℕ) → rank < 64 → k < 64 → back rank k < 64

@@ -6,7 +6,7 @@ ghost use Rattle.std.specs.List.{range_with_len, sum};
 ghost use Rattle.xl_curve.specs.Views.{counted, hits_below};
 ghost use Rattle.xl_curve_model.specs.Curves.{curve_accessed, curve_missed, curve_without, hits_at, hits_of, opening_curve};
 ghost use Rattle.xl_recency.specs.Lists.{IsTest};
-ghost use Rattle.xl_tlb.specs.Arrays.{IsFit};
+ghost use Rattle.xl_array.specs.Arrays.{IsFit};
 
 use crate::kernel::WIDEST;
 use crate::place::Place;

@@ -3,7 +3,7 @@
 ghost use Rattle.std.specs.Prelude.{◌≡◌, ◌<◌, ◌^◌, true, false, IfSome};
 ghost use Rattle.xl_curve.specs.Places.{IsNamed, gives_way as gives_way_to, is_vacant, leaf_in as leaf_kept, mark_of, place_of, same_words};
 ghost use Rattle.xl_model.specs.Addresses.{order_at};
-ghost use Rattle.xl_tlb.specs.Arrays.{IsFit};
+ghost use Rattle.xl_array.specs.Arrays.{IsFit};
 ghost use Rattle.xl_curve_model.specs.Curves.{same_leaf};
 ghost use Rattle.xl_model.specs.Ranges.{same_perm};
 

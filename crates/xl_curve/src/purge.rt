@@ -6,7 +6,7 @@ ghost use Rattle.xl_curve.specs.Views.{IsCurve, IsRemovedIn, removed};
 ghost use Rattle.xl_curve_model.specs.Curves.{curve_without};
 ghost use Rattle.xl_model.specs.Mapping.{covers, is_leaf};
 ghost use Rattle.xl_model.specs.Tlb.{covers_as, reaches_leaf};
-ghost use Rattle.xl_tlb.specs.Arrays.{covers_anywhere, covers_anywhere_as, is_any, is_of_space};
+ghost use Rattle.xl_array.specs.Arrays.{covers_anywhere, covers_anywhere_as, is_any, is_of_space};
 
 use crate::curve::Curve;
 use crate::sets::{remove_in, set_of};

@@ -5,7 +5,7 @@ use Rattle.xl_hart_model.specs.declared.hart.HartCounts.{HartCounts}
 use Rattle.xl_model.specs.Tally.{IsSmall}
 use Rattle.xl_model.specs.Walks.{walked}
 use Rattle.xl_model_lemmas.proofs.HitLemmas.{hit-is}
-use Rattle.xl_tlb.specs.Answers.{IsPageWord}
+use Rattle.xl_array.specs.Touches.{IsPageWord}
 use Rattle.xl_harts.proofs.RefusalLemmas.{leaf-fit}
 use Rattle.xl_model.specs.declared.address.Mode.TheVariants as mode
 use Rattle.xl_model.specs.declared.event.Event.TheVariants as event

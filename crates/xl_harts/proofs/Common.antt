@@ -54,8 +54,8 @@ pub use Rattle.xl_model_lemmas.proofs.RuleLemmas.{has-place, HasPlace, no-overla
 pub use Rattle.xl_model_lemmas.specs.Mappings.{IsLeafOf, IsMapping, IsNewLeaf, IsNewPlace}
 pub use Rattle.xl_model_lemmas.specs.Pools.{IsPoolOf}
 pub use Rattle.xl_radix_walk.specs.Row.{opening_table, row_table}
-pub use Rattle.xl_tlb.proofs.PageLemmas.{small_says}
-pub use Rattle.xl_tlb.specs.Arrays.{IsFit}
+pub use Rattle.xl_array.proofs.PageLemmas.{small_says}
+pub use Rattle.xl_array.specs.Arrays.{IsFit}
 pub use Rattle.xl_harts.specs.Events.{accesses_served, AreServed, HasSmallReplies, last_reply, outcome_of, refused_by}
 pub use Rattle.xl_harts.specs.Looks.{hart_after, hart_filled, IsAccess, IsReached, IsSeen, IsWalked, table_looked}
 pub use Rattle.xl_harts.specs.Views.{after_own, AllShort, IsCurrent, IsHarts, IsServed, leaf_at, refusal_of, state_of}

@@ -11,7 +11,7 @@ use Rattle.xl_hart_model.specs.Tally.{count_miss}
 use Rattle.xl_model.specs.Mapping.{leaf_at_page, reply_by}
 use Rattle.xl_model.specs.Tally.{IsSmall}
 use Rattle.xl_model.specs.Tlb.{array_hit}
-use Rattle.xl_tlb.specs.Answers.{IsPageWord}
+use Rattle.xl_array.specs.Touches.{IsPageWord}
 
 -- The array holds a leaf that covers the page, which moves to the front; the word says the page's
 -- frame in it.

@@ -5,14 +5,14 @@ ghost use Rattle.xl_hart_model.specs.Harts.{opening_hart, hart_replied, hart_ask
 ghost use Rattle.xl_model.specs.LeafWords.{small_leaf};
 ghost use Rattle.xl_model.specs.Tally.{IsSmall};
 ghost use Rattle.xl_model.specs.Tlb.{leaves_in_sets};
-ghost use Rattle.xl_tlb.specs.Arrays.{IsFit};
+ghost use Rattle.xl_array.specs.Arrays.{IsFit};
 ghost use Rattle.xl_harts.specs.Looks.{IsSeen, IsUnseen, hart_filled};
 
 use std::alloc::Global;
 use std::marker::Model;
+use xl_array::{Array, Hit, page_word};
 use xl_hart_model::{HartCounts, HartSpec, Request};
 use xl_model::{Leaf, NoMemory, Order, Reply, Serves, TlbSpec};
-use xl_tlb::{Array, Hit, page_word};
 
 /// A hart: its current space, its TLB array, how many requests are in its queue, and its counts.
 #[derive(Drop)]

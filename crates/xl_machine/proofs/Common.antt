@@ -47,7 +47,7 @@ pub use Rattle.xl_model_lemmas.proofs.RuleLemmas.{kept-sound, new-place, or-firs
 pub use Rattle.xl_model_lemmas.specs.Fresh.{ArraysFresh}
 pub use Rattle.xl_model_lemmas.specs.Mappings.{IsLeafOf, IsMapping, IsNewLeaf, IsNewPlace, IsSound}
 pub use Rattle.xl_model_lemmas.specs.Pools.{IsPoolOf}
-pub use Rattle.xl_tlb.specs.Arrays.{InLimits, IsFit}
+pub use Rattle.xl_array.specs.Arrays.{InLimits, IsFit}
 pub use Rattle.xl_tlb.specs.Tlbs.{AreSpecs, IsRising, IsSpec, leaf_replied, looked_arrays, NoneBelow, TlbState}
 unfoldable pub use Rattle.xl_tlb.specs.Tlbs.{tlb_fenced, tlb_filled, tlb_looked, tlb_opening, tlb_purged}
 pub use Rattle.xl_machine.specs.Rules.{rule_of, there_of}

@@ -3,7 +3,7 @@
 ghost use Rattle.std.specs.Prelude.{◌≡◌, true, IfSome};
 ghost use Rattle.xl_model.specs.Addresses.{is_canonical, page_of};
 ghost use Rattle.xl_model.specs.Mapping.{leaf_at_page};
-ghost use Rattle.xl_tlb.specs.Arrays.{IsFit};
+ghost use Rattle.xl_array.specs.Arrays.{IsFit};
 
 use crate::machine::Machine;
 use xl_model::{Leaf, Structure};

@@ -73,6 +73,7 @@ impl<S: Structure> Machine<S> {
     pub fn counts(&self) -> Counts
         ensures counts { result ≡ self.now.state.counts }
         ensures few { result.arrays ≤ 6 }
+        ensures reads { result.reads ≡ self.now.state.table.loads }
     {
         Counts {
             arrays: self.row.tlb.len(),

@@ -10,6 +10,7 @@ pub mod StepLemmas
 pub mod MoveStepLemmas
 pub mod RowLemmas
 pub mod WalkLemmas
+mod RangeLemmas
 mod RunLemmas
 mod TouchLemmas
 mod LeafInLemmas

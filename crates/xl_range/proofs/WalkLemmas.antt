@@ -1,10 +1,9 @@
 -- A walk and a fence of the table: what they keep, answer and leave.
-use Rattle.xl_range.proofs.Common.{◌%◌, ◌+◌, ◌<◌, ◌^◌, ◌∙◌, ◌≡◌, ◌⊎◌, ap, arith, Bool, Cached, caches_fenced, fence_answer, find, find-In, find-passes, holds_page, In, inl, inr, IsAt, IsFence, IsFit, IsFresh, IsRow, IsTable, IsWalk, Leaf, leaf_at_page, leaf_by, leaf_in, length, List, nat_tests, newest-In, None, Option, purged, purged-In, Range, range_reads, RangeCache, ranges_of, reaches_range, refl, row_of, Some, spread, subst, sym, table_fenced, table_walked, TableState, touched-In, touched-none, TreapView, true, walk_answer, without_items, ℕ}
+use Rattle.xl_range.proofs.Common.{◌%◌, ◌+◌, ◌<◌, ◌^◌, ◌∙◌, ◌≡◌, ◌⊎◌, ap, arith, Bool, Cached, caches_fenced, fence_answer, find, find-In, find-passes, holds_page, In, inl, inr, IsAt, IsFence, IsFit, IsFresh, IsKeepable, IsRow, IsTable, IsWalk, Leaf, leaf_at_page, leaf_by, leaf_in, length, List, nat_tests, newest-In, None, Option, purged, purged-In, Range, range_reads, range_walk_by, RangeCache, ranges_of, reaches_range, refl, row_of, Some, spread, subst, sym, table_fenced, table_walked, TableState, touched-In, touched-none, TreapView, true, walk_answer, walked, with_fill, with_touch, without_items, ℕ}
 use Rattle.xl_model.specs.Base.{plus}
-use Rattle.xl_model.specs.Walks.{range_walk_by, walked, with_fill, with_range, with_touch}
+use Rattle.xl_model.specs.Walks.{with_range}
 use Rattle.xl_model.specs.declared.event.Reach.{Reach}
 use Rattle.xl_model.specs.declared.work.Walk.{Walk}
-use Rattle.xl_tlb.specs.RangeCoding.{IsKeepable}
 use Rattle.xl_range.proofs.FindLemmas.{at-page, held-fresh, leaf-found}
 use Rattle.xl_range.proofs.HoldLemmas.{fit-range}
 use Rattle.xl_range.proofs.RunLemmas.{ranges-spread}

@@ -4,6 +4,9 @@
 mod changes;
 mod neighbours;
 mod pieces;
+mod range_coding;
+mod range_list;
+mod range_tlb;
 mod ranges;
 
 pub use ranges::Ranges;

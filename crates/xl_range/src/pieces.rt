@@ -10,8 +10,8 @@ ghost use Rattle.xl_range.specs.Cuts.{kept_cut, kept_following};
 ghost use Rattle.xl_range.specs.Rows.{IsAt, HasLeaf};
 ghost use Rattle.xl_treap.specs.Treaps.{keeping, IsApart, has_key, resized};
 
+use xl_array::block_start;
 use xl_model::{Leaf, Order, Range};
-use xl_tlb::block_start;
 use xl_treap::Treap;
 
 /// The leaf of a range that covers a page of it.

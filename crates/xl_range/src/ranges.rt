@@ -11,13 +11,13 @@ ghost use Rattle.xl_range.specs.Rows.{meets_where, opening_table, row_table};
 
 use crate::changes::{add, move_to, set_perm, take_out};
 use crate::pieces::leaf_in;
+use crate::range_tlb::RangeTlb;
 use std::alloc::Global;
 use std::marker::Model;
 use xl_model::{
     Leaf, NoMemory, NoRoom, Order, PageWalk, Perm, Range, Reach, Refused, Structure, Walk, Work,
 };
 use xl_phys::Bus;
-use xl_tlb::RangeTlb;
 use xl_treap::Treap;
 
 /// A table of ranges (redundant memory mappings, Karakostas and others, 2015): the maximal runs of

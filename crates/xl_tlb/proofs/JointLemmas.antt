@@ -1,6 +1,5 @@
 -- Two arrays that serve all accesses: a look in both, as a look at all.
-use Rattle.xl_tlb.proofs.Common.{◌<◌, ◌^◌, ◌∷◌, ◌≡◌, ◌≤◌, [], all_first, alone_at, answered_as, ap, AreJoint, AreTwo, arith, AtBoth, Both, FirstLacks, HasEights, IsFill, IsFront, IsFrontHit, IsKept, IsKnownAnswer, IsKnownWord, IsPairFill, IsPairLook, IsRising, IsTlb, IsWord, Kind, length, List, Lookup, map, None, one_more_at, plus, refl, Seen, seen_in, set_number, spec_of, tlb_of, TlbArray, ℕ}
-use Rattle.xl_tlb.proofs.FrontLemmas.{front_touch, hit_front}
+use Rattle.xl_tlb.proofs.Common.{◌<◌, ◌^◌, ◌∷◌, ◌≡◌, ◌≤◌, [], all_first, alone_at, answered_as, ap, AreJoint, AreTwo, arith, AtBoth, Both, FirstLacks, front_touch, HasEights, hit_front, IsFill, IsFront, IsFrontHit, IsKept, IsKnownAnswer, IsKnownWord, IsPairFill, IsPairLook, IsRising, IsTlb, IsWord, Kind, length, List, Lookup, map, None, one_more_at, plus, refl, Seen, seen_in, set_number, spec_of, tlb_of, TlbArray, ℕ}
 use Rattle.xl_tlb.proofs.StayLemmas.{fill_others, kept_at, OtherSets, touch_others}
 use Rattle.xl_tlb.proofs.StepLemmas.{above_beyond, IsLookAt, IsSeen, IsUnder, large_word, last_filled, look_hit, pair_specs, seen_none, seen_word, two_first, two_nowhere, two_second}
 use Rattle.xl_tlb.proofs.TlbLemmas.{filled_first, kept_state, serves_all}

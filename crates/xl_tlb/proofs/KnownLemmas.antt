@@ -1,5 +1,7 @@
 -- What is known of pages after one was kept or forgotten.
-use Rattle.xl_tlb.proofs.Common.{◌%◌, ◌*◌, ◌+◌, ◌<◌, ◌==◌, ◌∙◌, ◌∷◌, ◌≡◌, ◌≢◌, [], ap, arith, Bool, false, FrontsStay, get_or, get_or-set_other, IsFront, IsKey, IsLookup, Knows, length, List, Lookup, MruPages, nat_tests, no_key, refl, set, subst, suc, tag_of, TlbArray, true, zero, ℕ}
+use Rattle.xl_tlb.proofs.Common.{◌%◌, ◌*◌, ◌+◌, ◌<◌, ◌==◌, ◌∙◌, ◌∷◌, ◌≡◌, ◌≢◌, [], ap, arith, Bool, false, FrontsStay, get_or, get_or-set_other, IsFront, IsKey, Knows, length, List, Lookup, MruPages, nat_tests, no_key, refl, set, subst, suc, TlbArray, true, zero, ℕ}
+use Rattle.xl_array.specs.Coding.{tag_of}
+use Rattle.xl_array.specs.Lookup.{IsLookup}
 use Rattle.xl_model.specs.declared.address.Order.TheVariants as order
 
 -- no page has the key of an empty slot

@@ -1,6 +1,5 @@
 -- One array that serves all accesses: a look in it, as a look at all.
-use Rattle.xl_tlb.proofs.Common.{◌<◌, ◌^◌, ◌∷◌, ◌≡◌, ◌≤◌, [], all_first, Alone, alone_at, arith, AtOne, FirstLacks, HasEights, IsAloneFill, IsAloneLook, IsFill, IsFront, IsFrontHit, IsKept, IsKnownWord, IsNowhere, IsOne, IsTlb, IsWord, Kind, length, List, Lookup, map, None, one_more_at, plus, refl, set_number, spec_of, tlb_of, TlbArray, ℕ}
-use Rattle.xl_tlb.proofs.FrontLemmas.{front_touch, hit_front}
+use Rattle.xl_tlb.proofs.Common.{◌<◌, ◌^◌, ◌∷◌, ◌≡◌, ◌≤◌, [], all_first, Alone, alone_at, arith, AtOne, FirstLacks, front_touch, HasEights, hit_front, IsAloneFill, IsAloneLook, IsFill, IsFront, IsFrontHit, IsKept, IsKnownWord, IsNowhere, IsOne, IsTlb, IsWord, Kind, length, List, Lookup, map, None, one_more_at, plus, refl, set_number, spec_of, tlb_of, TlbArray, ℕ}
 use Rattle.xl_tlb.proofs.StayLemmas.{fill_others, kept_at, OtherSets, touch_others}
 use Rattle.xl_tlb.proofs.StepLemmas.{IsLookAt, IsSeen, large_spec, large_word, last_filled, look_hit, look_next, look_none, seen_hit, seen_none, seen_word, touch_spec}
 use Rattle.xl_tlb.proofs.TlbLemmas.{kept_state, serves_all}

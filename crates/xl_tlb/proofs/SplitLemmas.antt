@@ -1,6 +1,5 @@
 -- Three arrays, one for fetches, one for data, and one for both: a look in the two of a kind, as a look at all.
-use Rattle.xl_tlb.proofs.Common.{◌++◌, ◌<◌, ◌^◌, ◌∙◌, ◌∷◌, ◌≡◌, ◌≤◌, ◌⊎◌, [], alone_at, answered_as, ap, AreSplit, AreThree, arith, array_filled, array_hit, AtFetch, AtKind, AtLoad, AtStore, false, first_of_kind, FirstLacks, FitsSplit, get_or, HasEights, inl, inr, IsFill, IsFront, IsFrontHit, IsKept, IsKnownAnswer, IsKnownWord, IsLargeTouch, IsOfPair, IsPairFill, IsPairLook, IsRising, IsTlb, IsTouch, IsWord, Kind, Knows, LacksSmall, length, List, Lookup, map, MruPages, None, one_more_at, plus, refl, Replied, Seen, seen_in, Serves, serves_as, serves_kind, set, set_number, small_leaf, Some, spec_of, subst, sym, tlb_of, TlbArray, true, ℕ}
-use Rattle.xl_tlb.proofs.FrontLemmas.{array_found, front_touch, hit_front}
+use Rattle.xl_tlb.proofs.Common.{◌++◌, ◌<◌, ◌^◌, ◌∙◌, ◌∷◌, ◌≡◌, ◌≤◌, ◌⊎◌, [], alone_at, answered_as, ap, AreSplit, AreThree, arith, array_filled, array_found, array_hit, AtFetch, AtKind, AtLoad, AtStore, false, first_of_kind, FirstLacks, FitsSplit, front_touch, get_or, HasEights, hit_front, inl, inr, IsFill, IsFront, IsFrontHit, IsKept, IsKnownAnswer, IsKnownWord, IsLargeTouch, IsOfPair, IsPairFill, IsPairLook, IsRising, IsTlb, IsTouch, IsWord, Kind, Knows, LacksSmall, length, List, Lookup, map, MruPages, None, one_more_at, plus, refl, Replied, Seen, seen_in, Serves, serves_as, serves_kind, set, set_number, small_leaf, Some, spec_of, subst, sym, tlb_of, TlbArray, true, ℕ}
 use Rattle.xl_tlb.proofs.StayLemmas.{fill_others, kept_at, OtherSets, touch_others}
 use Rattle.xl_tlb.proofs.StepLemmas.{above_beyond, filled_past, filled_replied, IsLookAt, IsSeen, IsUnder, large_word, last_filled, look_hit, look_next, look_none, look_passed, other_beyond, pair_specs, seen_hit, seen_none, seen_passed, seen_word, two_first, two_nowhere, two_second}
 use Rattle.xl_tlb.proofs.TlbLemmas.{filled_first, kept_state, serves_all}

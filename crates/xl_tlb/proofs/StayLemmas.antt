@@ -1,7 +1,9 @@
 -- Leaves in front that stay there where one set of the first array changes.
-use Rattle.xl_tlb.proofs.Common.{◌%◌, ◌/◌, ◌∙◌, ◌∷◌, ◌≡◌, ◌≢◌, [], alone_at, Answer, answer_of, ap, arith, array_filled, array_touched, Bool, covers_as, false, filled_where, find, FrontsStay, get_or, get_or-set_other, IsFront, IsFrontHit, IsKept, IsTouch, Kind, Leaf, leaf_replied, List, looked_arrays, mod-mod_of_dvd, None, Option, refl, set_at, set_number, small_leaf, Some, subst, sym, takes_order, tlb_looked, TlbArray, TlbSpec, TlbState, touched, true, where_taken, with_set, ℕ}
+use Rattle.xl_tlb.proofs.Common.{◌%◌, ◌/◌, ◌∙◌, ◌∷◌, ◌≡◌, ◌≢◌, [], alone_at, Answer, answer_of, ap, arith, array_filled, array_touched, Bool, covers_as, false, filled_where, find, FrontsStay, get_or, get_or-set_other, IsFront, IsFrontHit, IsKept, IsTouch, Kind, Leaf, leaf_replied, List, looked_arrays, None, Option, refl, set_at, set_number, small_leaf, Some, subst, sym, takes_order, tlb_looked, TlbArray, TlbSpec, TlbState, true, where_taken, with_set, ℕ}
+use Rattle.std.proofs.Math.Nat.{mod-mod_of_dvd}
 use Rattle.std.proofs.lemmas.Nat.Gcd.{dvd_of_mod-eq-zero}
-use Rattle.xl_tlb.proofs.FillLemmas.{hit_set}
+use Rattle.xl_array.proofs.FillLemmas.{hit_set}
+use Rattle.xl_model.specs.Recency.{touched}
 use Rattle.xl_model.specs.declared.address.Order.TheVariants as order
 
 -- an array that is another but for one set

@@ -13,8 +13,9 @@ use Rattle.xl_tlb.specs.declared.pair.Seen.{Seen}
 use Rattle.xl_tlb.specs.declared.pair.Seen.TheVariants as seen
 use Rattle.xl_tlb.specs.declared.newest.MruPages.{MruPages}
 use Rattle.xl_tlb.specs.Answers.{IsNowhere, IsWord}
-use Rattle.xl_tlb.specs.Arrays.{IsCommon}
-use Rattle.xl_tlb.specs.Fronts.{FirstLacks, FrontsStay, HasEights, IsFront, IsFrontHit, IsLargeTouch, IsTouch, LacksSmall}
+use Rattle.xl_array.specs.Arrays.{IsCommon}
+use Rattle.xl_tlb.specs.Fronts.{FirstLacks, FrontsStay, HasEights, IsFront}
+use Rattle.xl_array.specs.Touches.{IsFrontHit, IsLargeTouch, IsTouch, LacksSmall}
 use Rattle.xl_tlb.specs.Known.{Knows}
 use Rattle.xl_tlb.specs.Tlbs.{TlbState, spec_of, leaf_replied, tlb_filled, tlb_looked}
 

@@ -8,15 +8,21 @@ ghost use Rattle.std.specs.Prelude.{ℕ, ◌≡◌, ◌<◌, ◌≤◌, ◌^◌,
 ghost use Rattle.xl_model.specs.Base.{plus};
 ghost use Rattle.xl_model.specs.Tally.{counted};
 ghost use Rattle.xl_model.specs.Tlb.{asked, filled_for, takes_leaf};
-ghost use Rattle.xl_tlb.specs.Hits.{hit_leaf, hit_touched, leaf_hit};
+ghost use Rattle.xl_array.specs.Hits.{hit_leaf, hit_touched, leaf_hit};
 ghost use Rattle.xl_tlb.specs.Founds.{with_fill, is_filled, filled_by, replied_as};
-ghost use Rattle.xl_tlb.specs.Lookup.{IsRequest};
+ghost use Rattle.xl_tlb.specs.Requests.{IsRequest};
 ghost use Rattle.xl_tlb.specs.Tlbs.{spec_of, bumped_where, IsFirstUpTo, IsRising, NoneBelow, hits_up_to, misses_up_to, replied_at, arrays_looked, hits_looked, misses_looked};
 
-use crate::any::AnyArray;
-use crate::coding::Hit;
-use crate::lookup::Request;
+use xl_array::{AnyArray, Hit};
 use xl_model::{Kind, Order};
+
+/// An access of a kind that looks for a page of a space.
+#[derive(Clone, Copy)]
+pub(crate) struct Request {
+    pub kind: Kind,
+    pub space: u16,
+    pub page: u64,
+}
 
 /// What a look found: a leaf, the level that hit, and how many arrays were filled.
 #[derive(Clone, Copy)]

@@ -9,15 +9,14 @@ ghost use Rattle.xl_model.specs.declared.address.Kind.{Kind as KindOf};
 ghost use Rattle.xl_model.specs.declared.address.Order.TheVariants as order_of;
 ghost use Rattle.xl_tlb.specs.Shapes.{AreJoint, AtBoth, FitsJoint, IsKnownAnswer, IsKnownFill, IsPairFill, IsPairLook, all_first, alone_at};
 ghost use Rattle.xl_tlb.specs.Fronts.{FirstLacks};
-ghost use Rattle.xl_tlb.specs.Lookup.{IsLookup};
+ghost use Rattle.xl_array.specs.Lookup.{IsLookup};
 ghost use Rattle.xl_tlb.specs.Tlbs.{spec_of};
 
-use crate::any::AnyArray;
 use crate::levels::{Answered, Levels};
-use crate::lookup::Lookup;
 use crate::newest::MruPages;
 use crate::pair::{Seen, fill_pair, first_and_rest, look_pair};
 use crate::shape::{Known, Shape};
+use xl_array::{AnyArray, Lookup};
 use xl_model::Kind;
 
 /// Two such arrays: all that is known of them lies in `Known`.

@@ -4,20 +4,18 @@ ghost use Rattle.std.specs.Prelude.{ℕ, true, ◌==◌, ◌≡◌, ◌<◌, ◌
 ghost use Rattle.xl_model.specs.declared.address.Kind.{Kind as KindOf};
 ghost use Rattle.xl_model.specs.declared.leaf.Leaf.{Leaf};
 ghost use Rattle.xl_model.specs.Tlb.{leaf_count, array_without, is_purged, reaches_leaf};
-ghost use Rattle.xl_tlb.specs.Arrays.{IsFit, InLimits};
+ghost use Rattle.xl_array.specs.Arrays.{IsFit, InLimits};
 ghost use Rattle.xl_tlb.specs.Answers.{IsLooked};
 ghost use Rattle.xl_tlb.specs.Counted.{IsState, answered_as, hit_at, seen_in};
-ghost use Rattle.xl_tlb.specs.Hits.{leaf_hit};
+ghost use Rattle.xl_array.specs.Hits.{leaf_hit};
 ghost use Rattle.xl_tlb.specs.Tlbs.{spec_of, tlb_opening, AreSpecs, IsRising, tlb_looked, tlb_filled, tlb_purged, tlb_fenced};
 
-use crate::any::AnyArray;
-use crate::coding::{Hit, page_word};
-use crate::in_turn::{fill_each, look_in};
-use crate::lookup::Request;
+use crate::in_turn::{Request, fill_each, look_in};
 use crate::pair::Seen;
 use arrayvec::ArrayVec;
 use std::alloc::Global;
 use std::marker::Model;
+use xl_array::{AnyArray, Hit, page_word};
 use xl_model::{Kind, Leaf, NoMemory, Purge, Reach, TlbSpec};
 
 /// The leaf's word; or the word of the page of a larger leaf; or a miss of all arrays; or unknown:

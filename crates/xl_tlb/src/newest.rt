@@ -4,10 +4,10 @@ ghost use Rattle.std.specs.Prelude.{true, ◌≡◌, ◌<◌, ◌^◌, ◌+◌, 
 ghost use Rattle.xl_model.specs.Tlb.{TlbArray};
 ghost use Rattle.xl_tlb.specs.Fronts.{IsFront, FrontsStay};
 ghost use Rattle.xl_tlb.specs.Known.{Knows};
-ghost use Rattle.xl_tlb.specs.Lookup.{IsLookup};
+ghost use Rattle.xl_array.specs.Lookup.{IsLookup};
 ghost use Rattle.xl_model.specs.declared.address.Order.TheVariants as order;
 
-use crate::lookup::Lookup;
+use xl_array::Lookup;
 
 /// For eight pages at most, the words of the leaves that answer them: each is the newest of its set
 /// of the first array. A page's place is its number's last three bits, and its key the tag of its

@@ -7,17 +7,17 @@ ghost use Rattle.std.specs.Prelude.{◌≡◌, true, map};
 ghost use Rattle.xl_model.specs.declared.address.Kind.{Kind as KindOf};
 ghost use Rattle.xl_model.specs.declared.address.Order.TheVariants as order_of;
 ghost use Rattle.xl_model.specs.Tlb.{takes_order};
-ghost use Rattle.xl_tlb.specs.Fronts.{FirstLacks, HasEights, LacksSmall};
+ghost use Rattle.xl_tlb.specs.Fronts.{FirstLacks, HasEights};
+ghost use Rattle.xl_array.specs.Touches.{LacksSmall};
 ghost use Rattle.xl_tlb.specs.Shapes.{AtOne, FitsOne, IsAloneFill, IsAloneLook, IsKnownAnswer, IsKnownFill, IsOne, all_first, alone_at};
-ghost use Rattle.xl_tlb.specs.Lookup.{IsLookup};
+ghost use Rattle.xl_array.specs.Lookup.{IsLookup};
 ghost use Rattle.xl_tlb.specs.Tlbs.{spec_of};
 
-use crate::any::AnyArray;
 use crate::levels::{Answered, Levels};
-use crate::lookup::Lookup;
 use crate::newest::MruPages;
 use crate::pair::first_and_rest;
 use crate::shape::{Known, Shape};
+use xl_array::{AnyArray, Lookup};
 use xl_model::Kind;
 
 /// Whether the sets of the one array are a multiple of eight. Where they aren't, one page is known

@@ -6,12 +6,11 @@ ghost use Rattle.std.specs.Prelude.{◌∷◌};
 ghost use Rattle.std.specs.List.{IsFirstAndRest};
 ghost use Rattle.xl_model.specs.declared.address.Order.TheVariants as order_of;
 ghost use Rattle.xl_model.specs.Tlb.{array_hit};
-ghost use Rattle.xl_tlb.specs.Fronts.{LacksSmall};
-ghost use Rattle.xl_tlb.specs.Lookup.{IsAt, IsLookup};
+ghost use Rattle.xl_array.specs.Touches.{LacksSmall};
+ghost use Rattle.xl_array.specs.Lookup.{IsAt, IsLookup};
 ghost use Rattle.xl_tlb.specs.Shapes.{IsOfPair, IsPairLook, IsPairFill};
 
-use crate::any::AnyArray;
-use crate::lookup::Lookup;
+use xl_array::{AnyArray, Lookup};
 use xl_model::Order;
 
 /// What a look for a leaf of 4 KiB in two arrays saw: the leaf's word, and which array hits; or the

@@ -10,12 +10,12 @@ ghost use Rattle.xl_tlb.specs.Answers.{IsLooked};
 ghost use Rattle.xl_tlb.specs.Fronts.{FirstLacks};
 ghost use Rattle.xl_tlb.specs.Known.{IsKey};
 ghost use Rattle.xl_tlb.specs.Shapes.{IsAnswered, IsKept, IsKnownAnswer, IsKnownFill, alone_at};
-ghost use Rattle.xl_tlb.specs.Lookup.{IsLookup};
+ghost use Rattle.xl_array.specs.Lookup.{IsLookup};
 ghost use Rattle.xl_tlb.specs.Tlbs.{spec_of, tlb_filled};
 
 use crate::levels::{Answered, Levels};
-use crate::lookup::Lookup;
 use crate::newest::MruPages;
+use xl_array::Lookup;
 use xl_model::{Kind, Order};
 
 /// The arrays of a row, and which pages the newest leaves of the first one answered of late, where

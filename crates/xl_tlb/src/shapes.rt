@@ -8,17 +8,16 @@ ghost use Rattle.xl_tlb.specs.Answers.{IsLooked, IsWord};
 ghost use Rattle.xl_tlb.specs.Fits.{fits_in};
 ghost use Rattle.xl_tlb.specs.Known.{Knows};
 ghost use Rattle.xl_tlb.specs.declared.newest.MruPages.{MruPages as PagesOf};
-ghost use Rattle.xl_tlb.specs.Lookup.{IsLookup};
+ghost use Rattle.xl_array.specs.Lookup.{IsLookup};
 ghost use Rattle.xl_tlb.specs.Tlbs.{spec_of, tlb_filled};
 
-use crate::coding::Hit;
 use crate::joint::{Joint, are_joint};
 use crate::levels::Levels;
-use crate::lookup::Lookup;
 use crate::newest::MruPages;
 use crate::one::{One, has_eights, is_one};
 use crate::shape::{Known, Shape, fill, search};
 use crate::split::{Split, are_split};
+use xl_array::{Hit, Lookup};
 use xl_model::{Kind, Order};
 
 /// The shape of a row's arrays.

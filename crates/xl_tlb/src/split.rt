@@ -12,15 +12,14 @@ ghost use Rattle.xl_tlb.specs.declared.newest.MruPages.{MruPages as PagesOf};
 ghost use Rattle.xl_tlb.specs.Fronts.{FirstLacks, IsFront};
 ghost use Rattle.xl_tlb.specs.Known.{Knows};
 ghost use Rattle.xl_tlb.specs.Shapes.{AreSplit, AtKind, FitsSplit, IsKnownAnswer, IsKnownFill, IsPairFill, IsPairLook, alone_at, first_of_kind};
-ghost use Rattle.xl_tlb.specs.Lookup.{IsLookup};
+ghost use Rattle.xl_array.specs.Lookup.{IsLookup};
 ghost use Rattle.xl_tlb.specs.Tlbs.{spec_of};
 
-use crate::any::AnyArray;
 use crate::levels::{Answered, Levels};
-use crate::lookup::Lookup;
 use crate::newest::MruPages;
 use crate::pair::{Seen, fill_pair, first_and_rest, look_pair};
 use crate::shape::{Known, Shape, search};
+use xl_array::{AnyArray, Lookup};
 use xl_model::Kind;
 
 /// Of each first array, which pages its newest leaves answered of late.

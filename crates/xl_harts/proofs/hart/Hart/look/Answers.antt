@@ -1,5 +1,5 @@
 use Rattle.xl_harts.proofs.Common.{sym}
-use Rattle.xl_tlb.specs.Hits.{leaf_hit}
+use Rattle.xl_array.specs.Hits.{leaf_hit}
 use Rattle.xl_harts.proofs.AccessLemmas.{hit-is-seen}
 use Rattle.xl_harts.proofs.hart.Hart.look.Goals as goal
 

@@ -1,0 +1,13 @@
+mod Common
+pub mod DropLemmas
+mod EqualLemmas
+pub mod FillLemmas
+mod HeldLemmas
+mod LookLemmas
+mod LookupLemmas
+pub mod PageLemmas
+mod SetLemmas
+mod SmallLemmas
+pub mod SpecLemmas
+pub mod TagLemmas
+pub mod TouchLemmas

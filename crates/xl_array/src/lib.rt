@@ -1,0 +1,13 @@
+//! One TLB array.
+#![tactic(auto)]
+
+mod any;
+mod array;
+mod coding;
+mod lookup;
+mod places;
+
+pub use any::AnyArray;
+pub use array::{Array, Filled};
+pub use coding::{Hit, block_start, hit_of, page_word, word_of};
+pub use lookup::Lookup;

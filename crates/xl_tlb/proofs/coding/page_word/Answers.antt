@@ -1,6 +1,0 @@
-use Rattle.xl_tlb.proofs.Common.{refl}
-use Rattle.xl_tlb.proofs.PageLemmas.{page_says}
-use Rattle.xl_tlb.proofs.coding.page_word.Goals as goal
-
-pub returns : goal.returns
-returns c = λ space. page_says space c.args.page c.args.hit.word c.following_start.result _ c.args.hit.order c.following_start.ensures.is refl
