@@ -7,7 +7,7 @@ mod LookLemmas
 mod LookupLemmas
 pub mod PageLemmas
 mod SetLemmas
-mod SmallLemmas
+pub mod SmallLemmas
 pub mod SpecLemmas
 pub mod TagLemmas
 pub mod TouchLemmas

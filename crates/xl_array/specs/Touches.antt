@@ -18,7 +18,7 @@ pub record IsTouch (space page word : ℕ) (a new : TlbArray) : Type 0 where
   pub moved : new ≡ word_touched space page order.K4 word a
 
 -- The array finds a leaf, of which this is the page's word, and which moves to the front of its set.
-pub record IsLargeTouch (space page word : ℕ) (a new : TlbArray) : Type 0 where
+pub record IsPageTouch (space page word : ℕ) (a new : TlbArray) : Type 0 where
   pub leaf : Leaf
   pub found : Some leaf ≡ array_hit a space page
   pub says : IsPageWord page word leaf

@@ -8,7 +8,7 @@ ghost use Rattle.xl_model.specs.Base.{one_if};
 ghost use Rattle.xl_array.specs.Any.{array_in, width_in};
 ghost use Rattle.xl_array.specs.Arrays.{IsCommon, IsFit, InLimits};
 ghost use Rattle.xl_array.specs.Lookup.{IsAt, IsFilled, IsLookup, IsTouched};
-ghost use Rattle.xl_array.specs.Touches.{IsFrontHit, IsLargeTouch, LacksSmall};
+ghost use Rattle.xl_array.specs.Touches.{IsFrontHit, IsPageTouch, LacksSmall};
 ghost use Rattle.xl_model.specs.LeafWords.{small_leaf};
 ghost use Rattle.xl_array.specs.Held.{Counts, Smalls};
 ghost use Rattle.xl_array.specs.Hits.{hit_leaf, leaf_hit, hit_touched, word_leaf, word_touched};
@@ -82,7 +82,7 @@ fn lowered(held: u64, left: u64) -> u64
 }
 
 /// Whether there may be leaves above 4 KiB, with one more leaf of this order.
-fn with_order(large: bool, order: Order) -> bool
+pub fn with_order(large: bool, order: Order) -> bool
     ensures old { result ≡ false → large ≡ false }
     ensures new { result ≡ false → order ≡ order_of.K4 }
 {
@@ -452,7 +452,7 @@ impl AnyArray {
         requires page { page < 2 ^ 52 }
         requires common { common ≡ true → IsCommon self.old.spec }
         requires lacks { LacksSmall space page self.old }
-        ensures some { IfSome result (λ word. IsLargeTouch space page word self.old self.new) }
+        ensures some { IfSome result (λ word. IsPageTouch space page word self.old self.new) }
         ensures none { IfNone result (self.new ≡ self.old) }
         ensures missed { IfNone result (None ≡ array_hit self.old space page) }
     {

@@ -1,6 +1,6 @@
 //! One TLB array.
 
-ghost use Rattle.std.specs.Prelude.{is_some, true, ◌≡◌, ◌<◌, ◌≤◌, ◌^◌, ◌+◌, ◌*◌, ◌/◌, ◌%◌, find, length, map, slice_index_or, slice_set, [], IfSome, IfNone, IfOk};
+ghost use Rattle.std.specs.Prelude.{is_some, true, None, ◌≡◌, ◌<◌, ◌≤◌, ◌^◌, ◌+◌, ◌*◌, ◌/◌, ◌%◌, find, length, map, slice_index_or, slice_set, [], IfSome, IfNone, IfOk};
 ghost use Rattle.xl_model.specs.Base.{one_if};
 ghost use Rattle.xl_model.specs.Ranges.{same_perm as is_same_perm};
 ghost use Rattle.xl_model.specs.LeafWords.{perm_at};
@@ -15,8 +15,9 @@ ghost use Rattle.xl_model.specs.declared.address.Order.TheVariants as order;
 ghost use Rattle.xl_array.specs.Equal.{is_equal, keeps_leaf};
 ghost use Rattle.xl_array.specs.Held.{Smalls};
 ghost use Rattle.xl_array.specs.Lookup.{IsAt, IsFilled, IsTouched};
+ghost use Rattle.xl_array.specs.Touches.{IsPageTouch, LacksSmall};
 
-use crate::coding::{Hit, hit_of, tag_of};
+use crate::coding::{Hit, hit_of, page_word, tag_of};
 use crate::lookup::Lookup;
 use crate::places::Places;
 use std::alloc::Global;
@@ -191,22 +192,41 @@ impl<const W: usize> Array<W> {
         self.touch_in(set, Lookup::of(space, page, order), order)
     }
 
-    /// Looks for the page in the orders that the array takes, from 4 KiB up.
-    #[tactic(auto, unfolding(xl_model::specs::Tlb::array_hit))]
-    pub fn look(&mut self, space: u16, page: u64) -> Option<Hit>
+    /// Looks for the page in the orders that the array takes, from 4 KiB up. Moves the leaf found to
+    /// the front of its set, and gives the word of the page. Without `large` there are no leaves
+    /// above 4 KiB, and none is looked for.
+    #[inline(always)]
+    pub fn look(&mut self, space: u16, page: u64, large: bool) -> Option<u64>
         requires space { space < 64 }
         requires page { page < 2 ^ 52 }
-        ensures found { hit_leaf space page result ≡ array_hit self.old space page }
-        ensures some { IfSome result (λ hit. self.new ≡ hit_touched space page hit self.old) }
+        requires smalls { Smalls large self.old.sets }
+        ensures some { IfSome result (λ word. IsPageTouch space page word self.old self.new) }
         ensures none { IfNone result (self.new ≡ self.old) }
+        ensures missed { IfNone result (None ≡ array_hit self.old space page) }
     {
         match self.touch(space, page, Order::K4) {
-            Some(word) => Some(Hit {
-                word,
-                order: Order::K4,
-            }),
-            None => self.look_above(space, page),
+            Some(word) => Some(word),
+            None if large => self.look_large(space, page),
+            None => None,
         }
+    }
+
+    /// Does what `look` does, where the array lacks a leaf of 4 KiB. Out of line: larger leaves are
+    /// few.
+    #[inline(never)]
+    #[tactic(auto, unfolding(xl_model::specs::Tlb::array_hit))]
+    fn look_large(&mut self, space: u16, page: u64) -> Option<u64>
+        requires space { space < 64 }
+        requires page { page < 2 ^ 52 }
+        requires lacks { LacksSmall space page self.old }
+        ensures some { IfSome result (λ word. IsPageTouch space page word self.old self.new) }
+        ensures none { IfNone result (self.new ≡ self.old) }
+        ensures missed { IfNone result (None ≡ array_hit self.old space page) }
+    {
+        let Some(hit) = self.look_above(space, page) else {
+            return None;
+        };
+        Some(page_word(page, hit))
     }
 
     /// Looks for the page in the orders above 4 KiB that the array takes.

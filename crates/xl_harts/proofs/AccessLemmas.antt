@@ -1,11 +1,11 @@
 -- An access of harts, against the definitions.
-use Rattle.xl_harts.proofs.Common.{◌%◌, ◌++◌, ◌+◌, ◌-◌, ◌<◌, ◌^◌, ◌∙◌, ◌≡◌, ◌≤◌, accessed-kept, accessed_by, after_hart_event, after_own, allows, ap, arith, array_hit, array_touched, array_walked, Bool, change_of, count_hit, count_miss, covers, current_hart, false, find-In, find-passes, first_found, Hart, hart_accessed, hart_after, hart_at, hart_change, hart_filled, hart_hit, hart_refusal, hart_replied, hart_reply, hart_rule, hart_served, HartSpec, HartsState, HasSmallReplies, held_leaves, IfSome, is_canonical, IsAccess, IsFit, IsHarts, IsHartSpec, IsKept, IsLeafOf, IsMapping, IsPoolOf, IsReached, IsSameWalk, IsSeen, IsServed, IsWalk, IsWalked, Kind, Leaf, leaf_at_page, List, nat_tests, None, older-mapping, Option, page_of, pages_of, plus, refl, Reply, reply_by, reply_where, rule, set, shared_row, Some, subst, sym, table_looked, table_walked, TableState, TlbArray, true, Walk, walk_answer, ℕ}
+use Rattle.xl_harts.proofs.Common.{◌%◌, ◌++◌, ◌+◌, ◌-◌, ◌<◌, ◌^◌, ◌∙◌, ◌≡◌, ◌≤◌, accessed-kept, accessed_by, after_hart_event, after_own, allows, ap, arith, array_hit, array_touched, array_walked, Bool, change_of, count_hit, count_miss, covers, current_hart, false, find-In, find-passes, first_found, Hart, hart_accessed, hart_after, hart_at, hart_change, hart_filled, hart_hit, hart_refusal, hart_replied, hart_reply, hart_rule, hart_served, HartSpec, HartsState, HasSmallReplies, held_leaves, IfSome, is_canonical, IsAccess, IsFit, IsHarts, IsHartSpec, IsKept, IsLeafOf, IsMapping, IsPageWord, IsPoolOf, IsReached, IsSeen, IsServed, IsWalk, IsWalked, Kind, Leaf, leaf_at_page, List, nat_tests, None, older-mapping, Option, page_of, pages_of, plus, refl, Reply, reply_by, reply_where, rule, set, shared_row, Some, subst, sym, table_looked, table_walked, TableState, TlbArray, true, Walk, walk_answer, ℕ}
 use Rattle.std.specs.Prelude.{if◌then◌else◌}
 use Rattle.xl_hart_model.specs.declared.hart.HartCounts.{HartCounts}
+use Rattle.xl_model.specs.PageWalks.{IsSameWalk}
 use Rattle.xl_model.specs.Tally.{IsSmall}
 use Rattle.xl_model.specs.Walks.{walked}
 use Rattle.xl_model_lemmas.proofs.HitLemmas.{hit-is}
-use Rattle.xl_array.specs.Touches.{IsPageWord}
 use Rattle.xl_harts.proofs.RefusalLemmas.{leaf-fit}
 use Rattle.xl_model.specs.declared.address.Mode.TheVariants as mode
 use Rattle.xl_model.specs.declared.event.Event.TheVariants as event

@@ -3,8 +3,11 @@ pub use Rattle.std.proofs.Common.{◌%◌, ◌&&◌, ◌*◌, ◌++◌, ◌+◌,
 pub use Rattle.std.proofs.Math.Nat.{le-max_left, le-max_right, max-le}
 pub use Rattle.std.proofs.lemmas.Bool.Decides.{nat_tests}
 pub use Rattle.std.proofs.lemmas.List.{get_or-set_same, length-map, set-get_or, set-set}
-pub use Rattle.std.specs.List.{list_any}
+pub use Rattle.std.specs.List.{All, list_any}
 pub use Rattle.circular_buffer.specs.Buffer.{Buffer}
+pub use Rattle.xl_array.proofs.PageLemmas.{small_says}
+pub use Rattle.xl_array.specs.Arrays.{IsFit}
+pub use Rattle.xl_array.specs.Touches.{IsPageTouch, IsPageWord}
 pub use Rattle.xl_hart_laws.proofs.CoherenceLemmas.{coherent, opening-kept}
 pub use Rattle.xl_hart_laws.proofs.CommandLemmas.{and_first, change-made, change-none, first-none, full-none, IsAllowed, made-leaves, refused-true, room-none, rule-allows, rule-none}
 pub use Rattle.xl_hart_laws.proofs.FramePoolLemmas.{pool-stays, pool-with, pool-without}
@@ -14,7 +17,7 @@ pub use Rattle.xl_hart_laws.proofs.OwnerLemmas.{inserted, owners-after, owners-a
 pub use Rattle.xl_hart_laws.proofs.QueueLemmas.{after-take, no-access, no-fence, no-switch, take-all, take-some}
 pub use Rattle.xl_hart_laws.specs.Histories.{owners}
 pub use Rattle.xl_hart_laws.specs.Kept.{IsHartSpec, IsKept, IsTable}
-pub use Rattle.xl_hart_model.specs.Harts.{accessed_by, array_walked, change_rule, current_hart, first_refusal, Hart, hart_asked, hart_at, hart_fenced, hart_hit, hart_replied, hart_switched, HartsState, is_full, kept_leaves, longest, mapping_changed, oldest, opening_hart, refused_unless, request_taken, shared_row, waiting_in}
+pub use Rattle.xl_hart_model.specs.Harts.{accessed_by, array_fenced, array_walked, change_rule, current_hart, first_refusal, Hart, hart_asked, hart_at, hart_fenced, hart_hit, hart_replied, hart_switched, HartsState, is_equal, is_full, kept_leaves, longest, mapping_changed, oldest, opening_hart, refused_unless, request_taken, shared_row, waiting_in}
 unfoldable pub use Rattle.xl_hart_model.specs.Harts.{after_hart_event, hart_accessed, hart_change, hart_outcome, hart_refusal, hart_reply, hart_rule, hart_served, opening_harts}
 pub use Rattle.xl_hart_model.specs.Requests.{held_leaves, older, request_of, undone, with_held}
 pub use Rattle.xl_hart_model.specs.Tally.{count_hit, frames_in, no_refusals}
@@ -37,10 +40,9 @@ unfoldable pub use Rattle.xl_model.specs.Room.{has_room}
 pub use Rattle.xl_model.specs.Rules.{frames_rule, named_rule, overlap_rule, place_rule, there_rule, unless}
 unfoldable pub use Rattle.xl_model.specs.Rules.{change_of, rule}
 pub use Rattle.xl_model.specs.Shapes.{brought, Chained, Cuckoo, Radix, Runs, Shape}
-pub use Rattle.xl_model.specs.PageWalks.{IsSameWalk}
 pub use Rattle.xl_model.specs.Structures.{answer_by, finds_place, IsBlock, IsLeafFor, IsPage, IsWalk, Made, page_limit, spaces_of, table_after, TableState}
 unfoldable pub use Rattle.xl_model.specs.Structures.{table_answer, table_walked, verdict, walk_answer}
-pub use Rattle.xl_model.specs.Tlb.{array_hit, array_touched, first_found, TlbArray}
+pub use Rattle.xl_model.specs.Tlb.{array_filled, array_hit, array_touched, first_found, TlbArray}
 pub use Rattle.xl_model.specs.declared.address.Kind.{Kind}
 pub use Rattle.xl_model.specs.declared.address.Order.{Order}
 pub use Rattle.xl_model.specs.declared.event.Event.{Event}
@@ -54,8 +56,6 @@ pub use Rattle.xl_model_lemmas.proofs.RuleLemmas.{has-place, HasPlace, no-overla
 pub use Rattle.xl_model_lemmas.specs.Mappings.{IsLeafOf, IsMapping, IsNewLeaf, IsNewPlace}
 pub use Rattle.xl_model_lemmas.specs.Pools.{IsPoolOf}
 pub use Rattle.xl_radix_walk.specs.Row.{opening_table, row_table}
-pub use Rattle.xl_array.proofs.PageLemmas.{small_says}
-pub use Rattle.xl_array.specs.Arrays.{IsFit}
 pub use Rattle.xl_harts.specs.Events.{accesses_served, AreServed, HasSmallReplies, last_reply, outcome_of, refused_by}
 pub use Rattle.xl_harts.specs.Looks.{hart_after, hart_filled, IsAccess, IsReached, IsSeen, IsWalked, table_looked}
 pub use Rattle.xl_harts.specs.Views.{after_own, AllShort, IsCurrent, IsHarts, IsServed, leaf_at, refusal_of, state_of}

@@ -1,4 +1,5 @@
 mod Common
+mod LargeLemmas
 mod RefusalLemmas
 mod ChangeLemmas
 mod AccessLemmas

@@ -6,11 +6,12 @@ ghost use Rattle.xl_model.specs.LeafWords.{small_leaf};
 ghost use Rattle.xl_model.specs.Tally.{IsSmall};
 ghost use Rattle.xl_model.specs.Tlb.{leaves_in_sets};
 ghost use Rattle.xl_array.specs.Arrays.{IsFit};
+ghost use Rattle.xl_array.specs.Held.{Smalls};
 ghost use Rattle.xl_harts.specs.Looks.{IsSeen, IsUnseen, hart_filled};
 
 use std::alloc::Global;
 use std::marker::Model;
-use xl_array::{Array, Hit, page_word};
+use xl_array::{Array, Hit, with_order};
 use xl_hart_model::{HartCounts, HartSpec, Request};
 use xl_model::{Leaf, NoMemory, Order, Reply, Serves, TlbSpec};
 
@@ -19,6 +20,8 @@ use xl_model::{Leaf, NoMemory, Order, Reply, Serves, TlbSpec};
 pub(crate) struct Hart {
     space: u16,
     array: Array<8>,
+    /// Whether the array may hold leaves above 4 KiB. Where it can't, none of theirs is looked for.
+    large: bool,
     waiting: usize,
     counts: HartCounts,
 }
@@ -34,15 +37,21 @@ impl Model for Hart {
       waiting = h.waiting;
       counts = h.counts;
     } };
+
+    ghost use Rattle.xl_array.specs.Held.{Smalls};
+
+    ghost invariant = { λ h. Smalls h.large h.array.sets };
 }
 
-/// Fills an array with what a walk found.
-fn fill_found(array: &mut Array<8>, found: Option<Leaf>)
+/// Fills an array with what a walk found. `large` is whether it may hold leaves above 4 KiB.
+fn fill_found(array: &mut Array<8>, large: &mut bool, found: Option<Leaf>)
     requires { IfSome found IsFit }
-    ensures { array.new ≡ array_walked found array.old }
+    ensures array { array.new ≡ array_walked found array.old }
+    ensures smalls { Smalls large.old array.old.sets → Smalls large.new array.new.sets }
 {
     if let Some(leaf) = found {
         array.fill(leaf);
+        *large = with_order(*large, leaf.order);
     }
 }
 
@@ -79,6 +88,7 @@ impl Hart {
         Ok(Hart {
             space: 0,
             array,
+            large: false,
             waiting: 0,
             counts: HartCounts::none(),
         })
@@ -113,9 +123,9 @@ impl Hart {
         ensures some { IfSome result (λ word. IsSeen page word self.old self.new) }
         ensures none { IfNone result (IsUnseen page self.old self.new) }
     {
-        let hit = self.array.look(self.space, page)?;
+        let word = self.array.look(self.space, page, self.large)?;
         self.counts.hit();
-        Some(page_word(page, hit))
+        Some(word)
     }
 
     /// Fills the array with the leaf of 4 KiB with this word, which a walk of `loads` loads found.
@@ -135,7 +145,7 @@ impl Hart {
         requires { IfSome found IsFit }
         ensures { self.new ≡ hart_filled found loads self.old }
     {
-        fill_found(&mut self.array, found);
+        fill_found(&mut self.array, &mut self.large, found);
         self.counts.miss(loads);
     }
 

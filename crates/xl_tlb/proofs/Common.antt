@@ -6,7 +6,7 @@ pub use Rattle.std.proofs.lemmas.List.Sums.{sum_by-cons}
 pub use Rattle.xl_array.proofs.SpecLemmas.{spec_filled, spec_touched}
 pub use Rattle.xl_array.proofs.TouchLemmas.{array_found, front_touch, hit_front}
 pub use Rattle.xl_array.specs.Hits.{leaf_hit}
-pub use Rattle.xl_array.specs.Touches.{IsFrontHit, IsLargeTouch, IsPageWord, IsTouch, LacksSmall}
+pub use Rattle.xl_array.specs.Touches.{IsFrontHit, IsPageTouch, IsPageWord, IsTouch, LacksSmall}
 pub use Rattle.xl_array.specs.declared.lookup.Lookup.{Lookup}
 pub use Rattle.xl_model.specs.Base.{plus}
 pub use Rattle.xl_model.specs.LeafWords.{leaf_with, small_leaf}

@@ -1,5 +1,5 @@
 -- Three arrays, one for fetches, one for data, and one for both: a look in the two of a kind, as a look at all.
-use Rattle.xl_tlb.proofs.Common.{◌++◌, ◌<◌, ◌^◌, ◌∙◌, ◌∷◌, ◌≡◌, ◌≤◌, ◌⊎◌, [], alone_at, answered_as, ap, AreSplit, AreThree, arith, array_filled, array_found, array_hit, AtFetch, AtKind, AtLoad, AtStore, false, first_of_kind, FirstLacks, FitsSplit, front_touch, get_or, HasEights, hit_front, inl, inr, IsFill, IsFront, IsFrontHit, IsKept, IsKnownAnswer, IsKnownWord, IsLargeTouch, IsOfPair, IsPairFill, IsPairLook, IsRising, IsTlb, IsTouch, IsWord, Kind, Knows, LacksSmall, length, List, Lookup, map, MruPages, None, one_more_at, plus, refl, Replied, Seen, seen_in, Serves, serves_as, serves_kind, set, set_number, small_leaf, Some, spec_of, subst, sym, tlb_of, TlbArray, true, ℕ}
+use Rattle.xl_tlb.proofs.Common.{◌++◌, ◌<◌, ◌^◌, ◌∙◌, ◌∷◌, ◌≡◌, ◌≤◌, ◌⊎◌, [], alone_at, answered_as, ap, AreSplit, AreThree, arith, array_filled, array_found, array_hit, AtFetch, AtKind, AtLoad, AtStore, false, first_of_kind, FirstLacks, FitsSplit, front_touch, get_or, HasEights, hit_front, inl, inr, IsFill, IsFront, IsFrontHit, IsKept, IsKnownAnswer, IsKnownWord, IsOfPair, IsPageTouch, IsPairFill, IsPairLook, IsRising, IsTlb, IsTouch, IsWord, Kind, Knows, LacksSmall, length, List, Lookup, map, MruPages, None, one_more_at, plus, refl, Replied, Seen, seen_in, Serves, serves_as, serves_kind, set, set_number, small_leaf, Some, spec_of, subst, sym, tlb_of, TlbArray, true, ℕ}
 use Rattle.xl_tlb.proofs.StayLemmas.{fill_others, kept_at, OtherSets, touch_others}
 use Rattle.xl_tlb.proofs.StepLemmas.{above_beyond, filled_past, filled_replied, IsLookAt, IsSeen, IsUnder, large_word, last_filled, look_hit, look_next, look_none, look_passed, other_beyond, pair_specs, seen_hit, seen_none, seen_passed, seen_word, two_first, two_nowhere, two_second}
 use Rattle.xl_tlb.proofs.TlbLemmas.{filled_first, kept_state, serves_all}
@@ -72,7 +72,7 @@ module _ (space page : ℕ) (f d s : TlbArray) (is : AreThree f.spec d.spec s.sp
         let mid = look_passed k space page None d (s ∷ []) (s ∷ []) h1 (h2 ∷ hs) (h2 ∷ hs) m1 (m2 ∷ ms) (plus m2 1 ∷ ms) fetch_serves.1 rising.1.0 last in
         look_next k space page None f f (d ∷ s ∷ []) (d ∷ s ∷ []) h0 (h1 ∷ h2 ∷ hs) (h1 ∷ h2 ∷ hs) m0 (m1 ∷ m2 ∷ ms) (m1 ∷ plus m2 1 ∷ ms) fetch_serves.0 missed rising.0 refl mid
 
-    fetch_large : (new : TlbArray) → IsLargeTouch space page word f new → fills < 2 ^ 64
+    fetch_large : (new : TlbArray) → IsPageTouch space page word f new → fills < 2 ^ 64
         → IsWord kind.Fetch space page word (tlb_of (f ∷ d ∷ s ∷ []) (h0 ∷ h1 ∷ h2 ∷ hs) (m0 ∷ m1 ∷ m2 ∷ ms) fills) (tlb_of (new ∷ d ∷ s ∷ []) (plus h0 1 ∷ h1 ∷ h2 ∷ hs) (m0 ∷ m1 ∷ m2 ∷ ms) fills)
     fetch_large new t small =
         large_word kind.Fetch space page word fills (record { leaf = t.leaf; level = f.spec.level; fills = 0 }) (f ∷ d ∷ s ∷ []) (new ∷ d ∷ s ∷ []) (h0 ∷ h1 ∷ h2 ∷ hs) (plus h0 1 ∷ h1 ∷ h2 ∷ hs) (m0 ∷ m1 ∷ m2 ∷ ms) (m0 ∷ m1 ∷ m2 ∷ ms)
@@ -99,7 +99,7 @@ module _ (space page : ℕ) (f d s : TlbArray) (is : AreThree f.spec d.spec s.sp
           look_passed k space page None f (d ∷ s ∷ []) (d ∷ s ∷ []) h0 (h1 ∷ h2 ∷ hs) (h1 ∷ h2 ∷ hs) m0 (m1 ∷ m2 ∷ ms) (plus m1 1 ∷ plus m2 1 ∷ ms) passed rising.0
           (two_nowhere k space page word fills d s (under k f d s served is) rising.1.0 h1 h2 hs m1 m2 ms missed none)
 
-      data_large : (new : TlbArray) → IsLargeTouch space page word d new → fills < 2 ^ 64
+      data_large : (new : TlbArray) → IsPageTouch space page word d new → fills < 2 ^ 64
           → IsWord k space page word (tlb_of (f ∷ d ∷ s ∷ []) (h0 ∷ h1 ∷ h2 ∷ hs) (m0 ∷ m1 ∷ m2 ∷ ms) fills) (tlb_of (f ∷ new ∷ s ∷ []) (h0 ∷ plus h1 1 ∷ h2 ∷ hs) (m0 ∷ m1 ∷ m2 ∷ ms) fills)
       data_large new t small =
           let x : Replied = record { leaf = t.leaf; level = d.spec.level; fills = 0 } in
