@@ -320,7 +320,8 @@ fences_items =
     (Command (event.Fence scope.All)) ∷
     (Referenced 10 12288 kind.Load) ∷ []
 
--- A refused command removes nothing.
+-- A refused command removes nothing. The move's new place has a leaf, and the last fence's address,
+-- which isn't canonical, has page 1.
 abbrev pub refused_commands_row : Row
 refused_commands_row = plain_row
 
@@ -335,6 +336,8 @@ refused_commands_items =
     (Command (event.Unmap 5 4096 order.K4)) ∷
     (Command (event.Map 0 4096 order.K4 perm_r__u)) ∷
     (Command (event.Fence (scope.Space 7))) ∷
+    (Command (event.Move 0 4096 8192 order.K4)) ∷
+    (Command (event.Fence (scope.Addr 549755817984))) ∷
     (Referenced 3 4096 kind.Load) ∷
     (Referenced 4 8192 kind.Load) ∷ []
 
