@@ -377,6 +377,20 @@ a_demand_area_items =
     (Referenced 7 4096 kind.Load) ∷
     (Referenced 8 8192 kind.Load) ∷ []
 
+-- One frame. The demand of page 1 takes it: its first access misses, the second looks for the new
+-- leaf. The map that page 2 demands is refused, so that its access is not served again; and page 1
+-- then hits at every width: 4 look-ups.
+abbrev pub a_demand_that_is_refused_row : Row
+a_demand_that_is_refused_row = record plain_row { frames = 1 }
+
+-- What is served then.
+abbrev pub a_demand_that_is_refused_items : List Item
+a_demand_that_is_refused_items =
+    (Declared (record { space = 0; page = 1; pages = 4; order = order.K4; perm = perm_rw_u })) ∷
+    (Referenced 1 4096 kind.Load) ∷
+    (Referenced 2 8192 kind.Load) ∷
+    (Referenced 3 4096 kind.Load) ∷ []
+
 -- Page 1 of space 0 in frame 0, with a permission.
 abbrev pub page_1 : Perm → Leaf
 page_1 perm = record { space = 0; first = 1; order = order.K4; frame = 0; perm = perm }
