@@ -320,7 +320,8 @@ fences_items =
     (Command (event.Fence scope.All)) ∷
     (Referenced 10 12288 kind.Load) ∷ []
 
--- A refused command removes nothing.
+-- A refused command removes nothing. The move's new place has a leaf, and the last fence's address,
+-- which isn't canonical, has page 1.
 abbrev pub refused_commands_row : Row
 refused_commands_row = plain_row
 
@@ -335,6 +336,8 @@ refused_commands_items =
     (Command (event.Unmap 5 4096 order.K4)) ∷
     (Command (event.Map 0 4096 order.K4 perm_r__u)) ∷
     (Command (event.Fence (scope.Space 7))) ∷
+    (Command (event.Move 0 4096 8192 order.K4)) ∷
+    (Command (event.Fence (scope.Addr 549755817984))) ∷
     (Referenced 3 4096 kind.Load) ∷
     (Referenced 4 8192 kind.Load) ∷ []
 
@@ -373,6 +376,20 @@ a_demand_area_items =
     (Referenced 6 8192 kind.Load) ∷
     (Referenced 7 4096 kind.Load) ∷
     (Referenced 8 8192 kind.Load) ∷ []
+
+-- One frame. The demand of page 1 takes it: its first access misses, the second looks for the new
+-- leaf. The map that page 2 demands is refused, so that its access is not served again; and page 1
+-- then hits at every width: 4 look-ups.
+abbrev pub a_demand_that_is_refused_row : Row
+a_demand_that_is_refused_row = record plain_row { frames = 1 }
+
+-- What is served then.
+abbrev pub a_demand_that_is_refused_items : List Item
+a_demand_that_is_refused_items =
+    (Declared (record { space = 0; page = 1; pages = 4; order = order.K4; perm = perm_rw_u })) ∷
+    (Referenced 1 4096 kind.Load) ∷
+    (Referenced 2 8192 kind.Load) ∷
+    (Referenced 3 4096 kind.Load) ∷ []
 
 -- Page 1 of space 0 in frame 0, with a permission.
 abbrev pub page_1 : Perm → Leaf

@@ -3,7 +3,7 @@
 ghost use Rattle.std.specs.Prelude.{◌≡◌, [], ◌∷◌, codes, replicate};
 ghost use Rattle.xl_curve_model.specs.Curves.{curve_accessed, opening_curve};
 ghost use Rattle.xl_curve_model.specs.CurveLines.{curve_line};
-ghost use Rattle.xl_curve_rows.specs.CurveRows.{figures, page_1, perm_r__u, perm_rw_u, three_pages_twice_row, three_pages_twice_items, a_removed_leaf_leaves_a_hole_row, a_removed_leaf_leaves_a_hole_items, a_hole_above_the_touched_place_row, a_hole_above_the_touched_place_items, a_hole_below_the_touched_place_row, a_hole_below_the_touched_place_items, a_hole_at_the_touched_place_row, a_hole_at_the_touched_place_items, two_holes_row, two_holes_items, several_sets_row, several_sets_items, large_leaves_row, large_leaves_items, a_purge_by_space_row, a_purge_by_space_items, a_purge_of_all_row, a_purge_of_all_items, a_protect_and_a_move_row, a_protect_and_a_move_items, fences_row, fences_items, refused_commands_row, refused_commands_items, denied_and_absent_row, denied_and_absent_items, a_demand_area_row, a_demand_area_items};
+ghost use Rattle.xl_curve_rows.specs.CurveRows.{figures, page_1, perm_r__u, perm_rw_u, three_pages_twice_row, three_pages_twice_items, a_removed_leaf_leaves_a_hole_row, a_removed_leaf_leaves_a_hole_items, a_hole_above_the_touched_place_row, a_hole_above_the_touched_place_items, a_hole_below_the_touched_place_row, a_hole_below_the_touched_place_items, a_hole_at_the_touched_place_row, a_hole_at_the_touched_place_items, two_holes_row, two_holes_items, several_sets_row, several_sets_items, large_leaves_row, large_leaves_items, a_purge_by_space_row, a_purge_by_space_items, a_purge_of_all_row, a_purge_of_all_items, a_protect_and_a_move_row, a_protect_and_a_move_items, fences_row, fences_items, refused_commands_row, refused_commands_items, denied_and_absent_row, denied_and_absent_items, a_demand_area_row, a_demand_area_items, a_demand_that_is_refused_row, a_demand_that_is_refused_items};
 ghost use Rattle.xl_curve_model.specs.CurveRun.{curve_of_run};
 
 /// Three pages, twice over: below width 3 each has left before it comes again.
@@ -123,6 +123,13 @@ pub fn a_leaf_of_another_permission()
     ensures { figures (curve_accessed (page_1 perm_r__u)
         (curve_accessed (page_1 perm_rw_u) (curve_accessed (page_1 perm_r__u) (opening_curve 1))))
         ≡ 3 ∷ 0 ∷ replicate 63 1 }
+{}
+
+/// A demand whose map is refused has no second access.
+#[tactic(auto, unfolding(xl_curve_model::specs::CurveComputing::computing_curves))]
+pub fn a_demand_that_is_refused()
+    ensures { figures (curve_of_run a_demand_that_is_refused_row 1 a_demand_that_is_refused_items)
+        ≡ 4 ∷ replicate 64 1 }
 {}
 
 /// The line of a curve: the row's name, the sets, the look-ups, and the hits of each width.

@@ -702,3 +702,21 @@ nine_leaves_in_eight_ways_figures = record {
   harts = (record no_hart_counts { accesses = 11; ok = 11; hits = 1; misses = 10; reads = 30; pasum = 151552 }) ∷ [];
   all = record { accepted = 9; refused = no_refusals; waiting = 9; held = 0 };
 }
+
+-- An address that isn't canonical, 2^38, and an unmapped one, whose walk is the load of the root's
+-- empty word.
+abbrev pub an_address_that_is_not_canonical_spec : HartSpec
+an_address_that_is_not_canonical_spec = record { harts = 1; queue = 4; frames = 4; nodes = 16; spaces = 1; sets = 1 }
+
+-- What is served.
+abbrev pub an_address_that_is_not_canonical_events : List HartEvent
+an_address_that_is_not_canonical_events =
+    (step.Own (event.Access 274877906944 kind.Load)) ∷
+    (step.Own (event.Access 4096 kind.Load)) ∷ []
+
+-- What is counted.
+abbrev pub an_address_that_is_not_canonical_figures : Figures
+an_address_that_is_not_canonical_figures = record {
+  harts = (record no_hart_counts { accesses = 2; unmapped = 1; not_canonical = 1; misses = 1; reads = 1 }) ∷ [];
+  all = record { accepted = 0; refused = no_refusals; waiting = 0; held = 0 };
+}

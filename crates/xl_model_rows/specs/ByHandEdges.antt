@@ -50,6 +50,10 @@ at_the_greatest = record (opening plain_row) {
   counts = record (no_counts 0) { accesses = 18446744073709551615; unmapped = 18446744073709551615; walks = 18446744073709551615 };
 }
 
+-- One access fewer than 2^63.
+abbrev pub at_the_half : RowState
+at_the_half = record (opening plain_row) { counts = record (no_counts 0) { accesses = 9223372036854775807 } }
+
 -- A map of a 2 MiB leaf, in the block of this number from address 2 MiB on.
 abbrev pub map_of_block : ℕ → Event
 map_of_block i = event.Map 0 (block_address 2097152 order.M2 i) order.M2 perm_r__u

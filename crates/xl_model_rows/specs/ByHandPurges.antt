@@ -489,8 +489,9 @@ node_tags_at_a_fence_by_page_items =
 
 -- Page 1 of both spaces, no TLB array, walk caches of four tags. The first walk of each space is 3
 -- loads, with no cache hit, since tags have the space; it fills a tag of level 1 and one of level
--- 0. A fence by space 1 removes its two tags: then its walk is 3 loads, that of space 0 is 1. Loads
--- 3 + 3 + 3 + 1 = 10. The frames are 0 and 1.
+-- 0. A fence by space 1 removes its two tags: then its walk is 3 loads. Page 513 of space 0 is
+-- unmapped, and begins at the tag of level 1: 1 load. Loads 3 + 3 + 3 + 1 = 10, 1 cache hit. The
+-- frames are 0 and 1.
 abbrev pub node_tags_at_a_fence_by_space_rows : List Row
 node_tags_at_a_fence_by_space_rows = (record plain_row { table = table.Radix 64 (4 ∷ 4 ∷ 0 ∷ 0 ∷ []) }) ∷ []
 
@@ -505,7 +506,7 @@ node_tags_at_a_fence_by_space_items =
     (Command (event.Fence (scope.Space 1))) ∷
     (Referenced 3 4096 kind.Load) ∷
     (Command (event.Space 0)) ∷
-    (Referenced 4 4096 kind.Load) ∷ []
+    (Referenced 4 2101248 kind.Load) ∷ []
 
 -- Page 1 of both spaces, no TLB array, walk caches of four tags. The first walk of each space is 3
 -- loads, with no cache hit, since tags have the space; it fills a tag of level 1 and one of level
@@ -571,9 +572,9 @@ sections_at_a_fence_by_page_items =
 
 -- Page 1 of both spaces in two ways of 16 slots, no TLB array, section caches of four. With no
 -- section cached all three orders are possible, 2 loads each: 6; the walk fills its 2 MiB and its 1
--- GiB section. With both cached 4 KiB alone is possible: 2 loads. A fence by space 1 removes its
--- two sections: then its walk is 6 loads, that of space 0 is 2. Loads 6 + 6 + 6 + 2 = 20. The
--- frames are 0 and 1.
+-- GiB section. A fence by space 1 removes its two sections: then its walk is 6 loads. Page 513 of
+-- space 0 is unmapped; of its sections that of 1 GiB is cached, and leaves 4 KiB alone possible: 2
+-- loads. Loads 6 + 6 + 6 + 2 = 20, 1 cache hit. The frames are 0 and 1.
 abbrev pub sections_at_a_fence_by_space_rows : List Row
 sections_at_a_fence_by_space_rows = (record plain_row { table = table.Cuckoo 2 4 4 100 4 1 4 4 (4 ∷ 4 ∷ []) }) ∷ []
 
@@ -588,7 +589,7 @@ sections_at_a_fence_by_space_items =
     (Command (event.Fence (scope.Space 1))) ∷
     (Referenced 3 4096 kind.Load) ∷
     (Command (event.Space 0)) ∷
-    (Referenced 4 4096 kind.Load) ∷ []
+    (Referenced 4 2101248 kind.Load) ∷ []
 
 -- Page 1 of both spaces in two ways of 16 slots, no TLB array, section caches of four. With no
 -- section cached all three orders are possible, 2 loads each: 6; the walk fills its 2 MiB and its 1

@@ -9,7 +9,7 @@ ghost use Rattle.xl_model.specs.Courses.{events_from};
 ghost use Rattle.xl_model.specs.Report.{report};
 ghost use Rattle.xl_model.specs.RowRun.{after_event};
 ghost use Rattle.xl_model_rows.specs.Plain.{plain_row, perm_r__u, rows_alone};
-ghost use Rattle.xl_model_rows.specs.ByHandEdges.{both_halves_of_the_addresses_rows, both_halves_of_the_addresses_items, a_page_to_execute_rows, a_page_to_execute_items, at_the_greatest, map_of_block};
+ghost use Rattle.xl_model_rows.specs.ByHandEdges.{both_halves_of_the_addresses_rows, both_halves_of_the_addresses_items, a_page_to_execute_rows, a_page_to_execute_items, at_the_greatest, at_the_half, map_of_block};
 
 /// Addresses of the upper half have pages of their own.
 #[tactic(auto, unfolding(xl_model::specs::Computing::computing))]
@@ -25,7 +25,7 @@ pub fn a_page_to_execute()
         ≡ codes "a accesses=3 ok=1 unmapped=0 denied=2 notcanonical=0 accepted=1 refused=0,0,0,0,0,0,0,0,0 walks=3 reads=9 wchits=0 fills=0 kicks=0 undone=0 migrated=0 growths=0 fences=0 invalidated=0 pasum=0000000000000004 tlb=-\n" }
 {}
 
-/// A count at its greatest goes on at 0.
+/// A count at its greatest, 2^64 - 1, goes on at 0, and one at 2^63 - 1 at 2^63.
 #[tactic(auto, unfolding(xl_model::specs::Computing::computing))]
 pub fn counts_go_on_at_0()
     ensures accesses { (after_event plain_row (event.Access 0 kind.Load)
@@ -36,6 +36,8 @@ pub fn counts_go_on_at_0()
         ≡ 0 }
     ensures reads { (after_event plain_row (event.Access 0 kind.Load) at_the_greatest).counts.reads
         ≡ 1 }
+    ensures half { (after_event plain_row (event.Access 0 kind.Load) at_the_half).counts.accesses
+        ≡ 9223372036854775808 }
 {}
 
 /// The blocks of a command follow one another by their size.

@@ -165,7 +165,7 @@ pub fn node_tags_at_a_fence_by_page()
 pub fn node_tags_at_a_fence_by_space()
     ensures { report rows_alone node_tags_at_a_fence_by_space_rows
         node_tags_at_a_fence_by_space_items ≡ codes
-        "a accesses=4 ok=4 unmapped=0 denied=0 notcanonical=0 accepted=5 refused=0,0,0,0,0,0,0,0,0 walks=4 reads=10 wchits=1 fills=0 kicks=0 undone=0 migrated=0 growths=0 fences=1 invalidated=2 pasum=0000000000002000 tlb=-\n" }
+        "a accesses=4 ok=3 unmapped=1 denied=0 notcanonical=0 accepted=5 refused=0,0,0,0,0,0,0,0,0 walks=4 reads=10 wchits=1 fills=0 kicks=0 undone=0 migrated=0 growths=0 fences=1 invalidated=2 pasum=0000000000002000 tlb=-\n" }
 {}
 
 /// Node tags at a fence of all.
@@ -193,7 +193,7 @@ pub fn sections_at_a_fence_by_page()
 #[tactic(auto, unfolding(xl_model::specs::Computing::computing))]
 pub fn sections_at_a_fence_by_space()
     ensures { report rows_alone sections_at_a_fence_by_space_rows sections_at_a_fence_by_space_items
-        ≡ codes "a accesses=4 ok=4 unmapped=0 denied=0 notcanonical=0 accepted=5 refused=0,0,0,0,0,0,0,0,0 walks=4 reads=20 wchits=2 fills=0 kicks=0 undone=0 migrated=0 growths=0 fences=1 invalidated=2 pasum=0000000000002000 tlb=-\n" }
+        ≡ codes "a accesses=4 ok=3 unmapped=1 denied=0 notcanonical=0 accepted=5 refused=0,0,0,0,0,0,0,0,0 walks=4 reads=20 wchits=1 fills=0 kicks=0 undone=0 migrated=0 growths=0 fences=1 invalidated=2 pasum=0000000000002000 tlb=-\n" }
 {}
 
 /// Cached sections at a fence of all.

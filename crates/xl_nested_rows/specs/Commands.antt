@@ -292,3 +292,39 @@ nodes_are_given_back_row = record {
     pasum = 0;
   };
 }
+
+-- Guest page 1 has the address 4096. The second address is 2^38 above it, in the same root of the
+-- host; the third has guest page 2^18 + 1 of the last root, 3 * 2^39 + 2^30 + 4096. The third is
+-- mapped once, no page after it is, and it is unmapped once. Each leaf needs two nodes of its own
+-- below the four roots.
+abbrev pub high_guest_addresses_row : NestRow
+high_guest_addresses_row = record {
+  nest = record { base = 0; nodes = 1; frames = 4; g_nodes = 16; g_cache = 0 };
+  events =
+      (event.GMap 4096 order.K4 perm_r__u) ∷
+      (event.GMap 274877911040 order.K4 perm_r__u) ∷
+      (event.GMap 1650341187584 order.K4 perm_r__u) ∷
+      (event.GMap 1650341187584 order.K4 perm_r__u) ∷
+      (event.GUnmap 1650341191680 order.K4) ∷
+      (event.GUnmap 1650341187584 order.K4) ∷
+      (event.GUnmap 1650341187584 order.K4) ∷ [];
+  outcomes =
+      outcome.Done ∷
+      outcome.Done ∷
+      outcome.Done ∷
+      (outcome.Refused refused.Overlap) ∷
+      (outcome.Refused refused.Absent) ∷
+      outcome.Done ∷
+      (outcome.Refused refused.Absent) ∷ [];
+  counts = record {
+    accesses = 0;
+    ok = 0;
+    page_faults = 0;
+    guest_faults = 0;
+    accepted = 4;
+    refused = 0 ∷ 0 ∷ 2 ∷ 1 ∷ 0 ∷ 0 ∷ [];
+    reads = 0;
+    hits = 0;
+    pasum = 0;
+  };
+}

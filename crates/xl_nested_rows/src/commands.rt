@@ -5,7 +5,7 @@ ghost use Rattle.xl_model.specs.declared.address.Kind.TheVariants as kind;
 ghost use Rattle.xl_nested_model.specs.declared.nest.NestReply.TheVariants as nest;
 ghost use Rattle.xl_nested_model.specs.Stages.{nest_code_of};
 ghost use Rattle.xl_nested_rows.specs.Row.{counts_of, outcomes_of};
-ghost use Rattle.xl_nested_rows.specs.Commands.{six_refusals_row, the_first_refusal_of_a_gmap_row, the_first_refusal_of_a_vmap_row, the_first_refusal_of_an_unmap_row, four_host_nodes_take_1g_alone_row, nodes_are_given_back_row};
+ghost use Rattle.xl_nested_rows.specs.Commands.{six_refusals_row, the_first_refusal_of_a_gmap_row, the_first_refusal_of_a_vmap_row, the_first_refusal_of_an_unmap_row, four_host_nodes_take_1g_alone_row, nodes_are_given_back_row, high_guest_addresses_row};
 
 /// Each of the six refusals, and the codes of faults.
 #[tactic(auto, unfolding(xl_model::specs::Computing::computing, xl_nested_model::specs::Computing::nested_computing))]
@@ -56,6 +56,13 @@ pub fn four_host_nodes_take_1g_alone()
 pub fn nodes_are_given_back()
     ensures outcomes { outcomes_of nodes_are_given_back_row ≡ nodes_are_given_back_row.outcomes }
     ensures counts { counts_of nodes_are_given_back_row ≡ nodes_are_given_back_row.counts }
+{}
+
+/// GMAP and GUNMAP at addresses of a root's upper half, and of the last root.
+#[tactic(auto, unfolding(xl_model::specs::Computing::computing, xl_nested_model::specs::Computing::nested_computing))]
+pub fn high_guest_addresses()
+    ensures outcomes { outcomes_of high_guest_addresses_row ≡ high_guest_addresses_row.outcomes }
+    ensures counts { counts_of high_guest_addresses_row ≡ high_guest_addresses_row.counts }
 {}
 
 /// The codes of the manual: page faults are 12, 13 and 15, guest-page faults 20, 21 and 23.
