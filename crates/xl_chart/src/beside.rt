@@ -27,9 +27,11 @@ pub(crate) fn access_both<S: Structure>(
     ensures curve { curve.new
         ≡ curve_after machine.old.row (Access va kind) machine.old.state curve.old }
 {
-    if let Some(leaf) = machine.access_found::<true>(va, kind) {
-        curve.access(leaf);
-        return Reply::Frame(leaf.frame);
+    let space = machine.space();
+    let page = machine.page_of(va);
+    if let Some(word) = machine.access_found::<true>(va, kind) {
+        curve.access_small(space, page, word);
+        return Reply::Frame(word / 16);
     }
     look(curve, machine.is_canonical(va), machine.covering(va));
     machine.access(va, kind)

@@ -24,6 +24,7 @@ pub use Rattle.xl_model.specs.declared.leaf.Leaf.{Leaf}
 pub use Rattle.xl_recency.specs.Lists.{IsTest}
 pub use Rattle.xl_curve.specs.Places.{AreApart, AreFewer, AreMarks, AreRanks, AreThinned, at_rank, distance, further, gap, gives_way, guided, HasRank, held, hole_where, is_vacant, IsFirst, IsGap, IsGuide, IsNamed, IsNeither, IsSameOrHole, IsSolid, IsStack, IsThinned, mark_of, mark_unless, moved, place_without, places_of, same_words, shifted, vacated}
 unfoldable pub use Rattle.xl_curve.specs.Places.{in_turn, leaf_in, place_of}
-pub use Rattle.xl_curve.specs.Views.{counted, hits_below, is_placed, IsCurve, IsRemovedIn, point_at, removed, set_of, with_front, with_removed}
+pub use Rattle.xl_curve.specs.Slots.{IsGuided, IsInFront, list_of}
+pub use Rattle.xl_curve.specs.Views.{counted, hits_below, is_placed, IsCurve, point_at, removed, set_of, with_front, with_removed}
 unfoldable pub use Rattle.xl_curve.specs.Views.{curve_of}
 pub use Rattle.xl_curve.specs.declared.place.Place.{Place}

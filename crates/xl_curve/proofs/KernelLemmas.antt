@@ -444,17 +444,31 @@ without_met q p hole vacant solid t = rw (vacant_place hole vacant, solid_place 
 pub without_kept : (q : Leaf → Bool) (p : Place) → is_vacant p ≡ false → q (leaf_in p) ≡ false → place_of p ≡ place_without q (place_of p)
 without_kept q p solid f = rw (solid_place p solid, f) refl
 
+-- A place with a name's tag has a leaf of the name, one with another tag has none.
+pub named_goes : (space first : ℕ) (o : Order) (named p hole : Place) → IsNamed space first o named → is_vacant hole ≡ true → (p.tag == named.tag) ≡ true
+    → place_of hole ≡ place_without (is_leaf space first o) (place_of p)
+named_goes space first o named p hole n vacant t =
+    let same : p.tag ≡ named.tag = grind (arith, nat_tests) in
+    without_met (is_leaf space first o) p hole vacant (rw same n.solid) (n.named p ∙ t)
+
+pub named_stays : (space first : ℕ) (o : Order) (named p : Place) → IsNamed space first o named → (p.tag == named.tag) ≡ false
+    → place_of p ≡ place_without (is_leaf space first o) (place_of p)
+named_stays space first o named p n f = go (is_vacant p) refl
+  where
+    go : (v : Bool) → is_vacant p ≡ v → place_of p ≡ place_without (is_leaf space first o) (place_of p)
+    go true e = without_hole (is_leaf space first o) p e
+    go false e = without_kept (is_leaf space first o) p e (n.named p ∙ f)
+
 -- A place with another mark than a name's has another leaf than the name's.
 unnamed : (space first : ℕ) (o : Order) (named p : Place) → IsNamed space first o named → mark_of p ≢ mark_of named
     → place_without (is_leaf space first o) (place_of p) ≡ place_of p
-unnamed space first o named p n other = go (is_vacant p) (p.tag == named.tag) refl refl
+unnamed space first o named p n other = go (p.tag == named.tag) refl
   where
-    go : (v s : Bool) → is_vacant p ≡ v → (p.tag == named.tag) ≡ s → place_without (is_leaf space first o) (place_of p) ≡ place_of p
-    go true s e f = sym (without_hole (is_leaf space first o) p e)
-    go false false e f = sym (without_kept (is_leaf space first o) p e (n.named p ∙ f))
-    go false true e f =
+    go : (s : Bool) → (p.tag == named.tag) ≡ s → place_without (is_leaf space first o) (place_of p) ≡ place_of p
+    go false f = sym (named_stays space first o named p n f)
+    go true t =
         let same : p.tag ≡ named.tag = grind (arith, nat_tests) in
-        absurd (other (ap (λ (b : Bool). mark_unless b p.tag) e ∙ ap (λ (k : ℕ). mark_unless false k) same ∙ sym (ap (λ (b : Bool). mark_unless b named.tag) n.solid)))
+        absurd (other (ap (λ (k : ℕ). mark_unless (k == 18446744073709551615) k) same))
 
 pub turned : (b : Bool) → not b ≡ true → b ≡ false
 turned true e = absurd (cc)

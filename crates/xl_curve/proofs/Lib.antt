@@ -5,4 +5,5 @@ mod KernelLemmas
 mod PlaceLemmas
 mod RankLemmas
 mod SetLemmas
+mod SlotsLemmas
 mod StackLemmas

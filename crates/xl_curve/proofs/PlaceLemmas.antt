@@ -2,7 +2,7 @@
 use Rattle.xl_curve.proofs.Common.{◌%◌, ◌&&◌, ◌*◌, ◌+◌, ◌/◌, ◌<◌, ◌==◌, ◌^◌, ◌∙◌, ◌≡◌, ap, arith, Bool, false, is_leaf, is_vacant, IsFit, IsNamed, Leaf, leaf_in, level_of, nat_tests, Order, order_at, Place, refl, same-tests, same_leaf, same_words, sym, ℕ}
 use Rattle.xl_array.proofs.TagLemmas.{low_level}
 use Rattle.xl_model.proofs.CodeLemmas.{at-level, frame-back, level-at, perm-back}
-use Rattle.xl_model.specs.LeafWords.{perm_code}
+use Rattle.xl_model.specs.LeafWords.{perm_code, small_leaf}
 
 -- the parts of a tag
 parts : (first space level tag : ℕ) → space < 64 → level < 3 → tag ≡ (first * 64 + space) * 3 + level
@@ -17,6 +17,14 @@ place_back leaf p fit t w =
     let a = parts leaf.first leaf.space (level_of leaf.order) p.tag fit.space_in (low_level leaf.order) t in
     let low : level_of leaf.order < 3 = low_level leaf.order in
     rw (a.0, a.1, a.2, w, at-level leaf.order, frame-back leaf.frame leaf.perm, perm-back leaf.frame leaf.perm) refl
+
+-- so does a leaf of 4 KiB, with the frame and permission of a word
+pub small_back : (space page : ℕ) (p : Place) → space < 64 → p.tag ≡ (page * 64 + space) * 3 → leaf_in p ≡ small_leaf space page p.word
+unfolding leaf_in
+small_back space page p s t =
+    let a = parts page space 0 p.tag s (omega arith) (omega (arith, t)) in
+    let f : page / 1 * 1 ≡ page = omega arith in
+    rw (a.0, a.1, a.2, f) refl
 
 -- and the place is no hole
 pub solid : (leaf : Leaf) (p : Place) → IsFit leaf → p.tag ≡ (leaf.first * 64 + leaf.space) * 3 + level_of leaf.order → is_vacant p ≡ false

@@ -1,5 +1,5 @@
 -- Each leaf is in its own set, so that what is looked for in one set is in no other.
-use Rattle.xl_curve.proofs.Common.{◌%◌, ◌&&◌, ◌+◌, ◌/◌, ◌<◌, ◌==◌, ◌||◌, ◌∙◌, ◌∷◌, ◌≡◌, ◌≤◌, [], ap, arith, Bool, covers, covers_as, false, first_so, get_or, get_or-set_other, get_or-set_same, get_or_default, hole_where, is_leaf, is_placed, IsCurve, IsRemovedIn, IsThinned, Leaf, length, length-map, length-set, List, list_all, map, nat_tests, None, Option, Order, order_same, pages_of, place_without, refl, removed, same_order, second_so, set, set-get_or, set_of, shifted, Some, subst, suc, sym, take, true, vacated, with_removed, zero, ℕ}
+use Rattle.xl_curve.proofs.Common.{◌%◌, ◌&&◌, ◌+◌, ◌/◌, ◌<◌, ◌==◌, ◌||◌, ◌∙◌, ◌∷◌, ◌≡◌, ◌≤◌, [], ap, arith, Bool, covers, covers_as, false, first_so, get_or, get_or-set_other, get_or-set_same, get_or_default, hole_where, is_leaf, is_placed, IsCurve, IsThinned, Leaf, length, length-map, length-set, List, list_all, map, nat_tests, None, Option, Order, order_same, pages_of, place_without, refl, removed, same_order, second_so, set, set_of, shifted, Some, subst, suc, sym, take, true, vacated, with_removed, zero, ℕ}
 use Rattle.std.proofs.Math.ListN.{get_or-map}
 use Rattle.xl_model.specs.declared.address.Order.TheVariants as order
 
@@ -164,17 +164,6 @@ pub anywhere_removed : (stacks new : List (List (Option Leaf))) (k page : ℕ) (
     → new ≡ with_removed (λ x. covers_as x.space page o x) k stacks → new ≡ removed (λ x. covers_as x.space page o x) stacks
 anywhere_removed stacks new k page o kept e is =
     removed_there stacks new k (λ x. covers_as x.space page o x) kept (λ x aligned t. covering_set (length stacks) k x.space page o x e aligned t) is
-
--- Nothing is removed from a set where no leaf passes the test.
-pub none_removed : (stacks : List (List (Option Leaf))) (k : ℕ) (d : List (Option Leaf)) (q : Leaf → Bool) → k < length stacks
-    → map (place_without q) (get_or stacks k d) ≡ get_or stacks k d → IsRemovedIn q k stacks stacks
-none_removed stacks k d q l same =
-    let own : get_or stacks k d ≡ get_or stacks k [] = get_or_default stacks k d [] l in
-    record {
-      is =
-          sym (set-get_or stacks k [])
-          ∙ ap (λ (x : List (Option Leaf)). set stacks k x) (sym own ∙ sym same ∙ ap (λ (x : List (Option Leaf)). map (place_without q) x) own);
-    }
 
 -- ---- one order after another
 

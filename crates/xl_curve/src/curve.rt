@@ -1,10 +1,12 @@
 //! The curve.
 
-ghost use Rattle.std.specs.Prelude.{◌≡◌, ◌^◌, ◌<◌, ◌≤◌, ◌%◌, length, map, replicate, take, slice_index_or, IfOk, IfSome};
+ghost use Rattle.std.specs.Prelude.{◌≡◌, ◌^◌, ◌<◌, ◌≤◌, ◌%◌, false, length, map, replicate, take, slice_index_or, IfOk, IfSome};
 ghost use Rattle.std.specs.Fn.{FnReturnsAt};
 ghost use Rattle.std.specs.List.{range_with_len, sum};
+ghost use Rattle.xl_curve.specs.Places.{is_vacant, leaf_in};
 ghost use Rattle.xl_curve.specs.Views.{counted, hits_below};
 ghost use Rattle.xl_curve_model.specs.Curves.{curve_accessed, curve_missed, curve_without, hits_at, hits_of, opening_curve};
+ghost use Rattle.xl_model.specs.LeafWords.{small_leaf};
 ghost use Rattle.xl_recency.specs.Lists.{IsTest};
 ghost use Rattle.xl_array.specs.Arrays.{IsFit};
 
@@ -14,7 +16,7 @@ use crate::sets::{access_in, remove_from_each, set_of};
 use crate::stack::Stack;
 use std::alloc::Global;
 use std::marker::Model;
-use xl_model::{Leaf, NoMemory};
+use xl_model::{Leaf, NoMemory, Order};
 
 /// The hits of arrays of each width from 1 to 64, found in one pass. Contracts see an array for
 /// each width, with its sets' lists and its hits.
@@ -104,8 +106,30 @@ impl Curve {
         requires { IsFit leaf }
         ensures { self.new ≡ curve_accessed leaf self.old }
     {
-        let set = set_of(self.stacks.len(), leaf.first, leaf.order);
-        let distance = access_in(&mut self.stacks, set, Place::of(leaf));
+        self.access_place(leaf.first, leaf.order, Place::of(leaf));
+    }
+
+    /// Does what `access` does with the leaf of 4 KiB of a page, by the word that has its frame
+    /// (times 16) and its permission.
+    #[inline(always)]
+    pub fn access_small(&mut self, space: u16, page: u64, word: u64)
+        requires { IsFit (small_leaf space page word) }
+        ensures { self.new ≡ curve_accessed (small_leaf space page word) self.old }
+    {
+        self.access_place(page, Order::K4, Place::small(space, page, word));
+    }
+
+    /// Does what `access` does with the leaf in a place, whose first page and order these are.
+    #[inline(always)]
+    fn access_place(&mut self, first: u64, order: Order, place: Place)
+        requires solid { is_vacant place ≡ false }
+        requires fit { IsFit (leaf_in place) }
+        requires first { (leaf_in place).first ≡ first }
+        requires order { (leaf_in place).order ≡ order }
+        ensures { self.new ≡ curve_accessed (leaf_in place) self.old }
+    {
+        let set = set_of(self.stacks.len(), first, order);
+        let distance = access_in(&mut self.stacks, set, place);
         count(&mut self.counts, distance);
         self.lookups = self.lookups.wrapping_add(1);
     }

@@ -1,9 +1,10 @@
-//! The work on slices of places.
+//! The work on places in slots.
 
 ghost use Rattle.std.specs.Prelude.{◌≡◌, ◌≢◌, ℕ, ◌<◌, ◌≤◌, ◌++◌, ◌∷◌, true, false, Some, take, drop, length, map, slice_index, IfNone, IfSome};
 ghost use Rattle.std.specs.Fn.{FnReturnsAt};
 ghost use Rattle.std.specs.List.{remove};
-ghost use Rattle.xl_curve.specs.Places.{AreApart, AreFewer, AreMarks, AreRanks, AreThinned, IsAt, IsFirst, IsGap, IsGuide, IsNamed, IsNeither, IsSameOrHole, IsSolid, IsStack, distance, further, gap, guided, in_turn, is_vacant, leaf_in, moved, place_of, place_without, places_of, shifted, vacated};
+ghost use Rattle.xl_curve.specs.Places.{AreApart, AreFewer, AreMarks, AreRanks, AreThinned, IsAt, IsFirst, IsGap, IsNamed, IsNeither, IsSameOrHole, IsSolid, IsStack, distance, further, gap, guided, in_turn, is_vacant, leaf_in, moved, place_of, place_without, places_of, vacated};
+ghost use Rattle.xl_curve.specs.Slots.{IsGuided, IsInFront, IsSlots, list_of};
 ghost use Rattle.xl_curve_model.specs.Curves.{same_leaf};
 ghost use Rattle.xl_model.specs.Mapping.{is_leaf};
 ghost use Rattle.xl_model.specs.declared.address.Order.{Order};
@@ -202,65 +203,63 @@ fn vacate(
     None
 }
 
+/// Places in slots. What is known of them is in `IsSlots`.
+#[derive(Drop)]
+pub(crate) struct Slots {
+    pub marks: [u8; WIDEST],
+    pub ranks: [u8; WIDEST],
+    pub places: [Place; WIDEST],
+    /// For each mark the slot that a leaf of it was put into last.
+    pub guide: [u8; MARKS],
+    /// No hole has a lower rank.
+    pub solid: u8,
+}
+
 /// Puts a leaf into a slot, and in front.
 #[inline(always)]
-fn fill(
-    marks: &mut [u8; WIDEST],
-    ranks: &mut [u8; WIDEST],
-    slots: &mut [Place; WIDEST],
-    guide: &mut [u8; MARKS],
-    slot: usize,
-    leaf: Place,
-)
-    requires slot { IsFirst (slice_index ranks.old slot) slot ranks.old }
-    requires within { (slot < 64) × (slice_index ranks.old slot < 64) }
+fn fill(slots: &mut Slots, slot: usize, leaf: Place)
+    requires slot { IsFirst (slice_index slots.old.ranks slot) slot slots.old.ranks }
+    requires within { (slot < 64) × (slice_index slots.old.ranks slot < 64) }
     requires solid { is_vacant leaf ≡ false }
-    requires kept { IsStack marks.old ranks.old slots.old }
-    requires guided { IsGuide guide.old marks.old ranks.old }
-    ensures places { in_turn ranks.new (places_of slots.new) ≡ Some (leaf_in leaf)
-        ∷ remove (in_turn ranks.old (places_of slots.old)) (slice_index ranks.old slot) }
-    ensures kept { IsStack marks.new ranks.new slots.new }
-    ensures guided { IsGuide guide.new marks.new ranks.new }
-    ensures solid { (k : ℕ) → slice_index ranks.old slot < k
-        → IsSolid k marks.old ranks.old → IsSolid k marks.new ranks.new }
+    requires kept { IsGuided slots.old }
+    ensures list { list_of slots.new ≡ Some (leaf_in leaf)
+        ∷ remove (list_of slots.old) (slice_index slots.old.ranks slot) }
+    ensures kept { IsGuided slots.new }
+    ensures solid { (k : ℕ) → slice_index slots.old.ranks slot < k
+        → IsSolid k slots.old.marks slots.old.ranks → IsSolid k slots.new.marks slots.new.ranks }
+    ensures bound { slots.new.solid ≡ slots.old.solid }
 {
-    let rank = ranks[slot];
+    let rank = slots.ranks[slot];
     let mark = leaf.mark();
-    marks[slot] = mark;
-    slots[slot] = leaf;
-    guide[mark as usize] = slot as u8;
-    move_to_front(ranks, rank);
+    slots.marks[slot] = mark;
+    slots.places[slot] = leaf;
+    slots.guide[mark as usize] = slot as u8;
+    move_to_front(&mut slots.ranks, rank);
 }
 
 /// Puts a leaf in front, where the first place that is a hole or has the leaf is in this slot.
 /// Behind a hole the leaf leaves one where it was. Gives the distance at which it was.
 #[inline(always)]
-fn close_gap(
-    marks: &mut [u8; WIDEST],
-    ranks: &mut [u8; WIDEST],
-    slots: &mut [Place; WIDEST],
-    guide: &mut [u8; MARKS],
-    slot: usize,
-    leaf: Place,
-) -> Option<usize>
+fn close_gap(slots: &mut Slots, slot: usize, leaf: Place) -> Option<usize>
     requires solid { is_vacant leaf ≡ false }
-    requires gap { IsGap (same_leaf (leaf_in leaf)) slot ranks.old slots.old }
-    requires kept { IsStack marks.old ranks.old slots.old }
-    requires guided { IsGuide guide.old marks.old ranks.old }
-    ensures moved { in_turn ranks.new (places_of slots.new) ≡ shifted (same_leaf (leaf_in leaf))
-        (leaf_in leaf) (in_turn ranks.old (places_of slots.old)) }
-    ensures distance { result ≡
-        distance (same_leaf (leaf_in leaf)) (in_turn ranks.old (places_of slots.old)) }
-    ensures kept { IsStack marks.new ranks.new slots.new }
-    ensures guided { IsGuide guide.new marks.new ranks.new }
+    requires gap { IsGap (same_leaf (leaf_in leaf)) slot slots.old.ranks slots.old.places }
+    requires kept { IsGuided slots.old }
+    ensures front { IsInFront (leaf_in leaf) (list_of slots.old) result (list_of slots.new) }
+    ensures kept { IsGuided slots.new }
 {
-    let rank = ranks[slot];
-    if slots[slot].is_hole() {
-        fill(marks, ranks, slots, guide, slot, leaf);
-        return vacate(marks, ranks, slots, rank + 1, leaf);
+    let rank = slots.ranks[slot];
+    if slots.places[slot].is_hole() {
+        fill(slots, slot, leaf);
+        return vacate(
+            &mut slots.marks,
+            &slots.ranks,
+            &mut slots.places,
+            rank + 1,
+            leaf,
+        );
     }
-    guide[leaf.mark() as usize] = slot as u8;
-    move_to_front(ranks, rank);
+    slots.guide[leaf.mark() as usize] = slot as u8;
+    move_to_front(&mut slots.ranks, rank);
     Some(rank as usize)
 }
 
@@ -275,52 +274,31 @@ pub(crate) fn first_hole(marks: &[u8; WIDEST], ranks: &[u8; WIDEST]) -> u8
 
 /// Puts a leaf in front, where none is a hole and none has the leaf: the last place gives way.
 #[inline(always)]
-fn bring_anew(
-    marks: &mut [u8; WIDEST],
-    ranks: &mut [u8; WIDEST],
-    slots: &mut [Place; WIDEST],
-    guide: &mut [u8; MARKS],
-    leaf: Place,
-)
+fn bring_anew(slots: &mut Slots, leaf: Place)
     requires solid { is_vacant leaf ≡ false }
-    requires kept { IsStack marks.old ranks.old slots.old }
-    requires guided { IsGuide guide.old marks.old ranks.old }
-    requires none { gap (same_leaf (leaf_in leaf)) (in_turn ranks.old (places_of slots.old))
-        ≡ None }
-    ensures moved { in_turn ranks.new (places_of slots.new) ≡ take 64 (shifted
-        (same_leaf (leaf_in leaf)) (leaf_in leaf) (in_turn ranks.old (places_of slots.old))) }
-    ensures distance { None ≡
-        distance (same_leaf (leaf_in leaf)) (in_turn ranks.old (places_of slots.old)) }
-    ensures kept { IsStack marks.new ranks.new slots.new }
-    ensures guided { IsGuide guide.new marks.new ranks.new }
-    ensures full { IsSolid 64 marks.old ranks.old → IsSolid 64 marks.new ranks.new }
+    requires none { gap (same_leaf (leaf_in leaf)) (list_of slots.old) ≡ None }
+    requires kept { IsGuided slots.old }
+    ensures front { IsInFront (leaf_in leaf) (list_of slots.old) None (list_of slots.new) }
+    ensures kept { IsGuided slots.new }
+    ensures full { IsSolid 64 slots.old.marks slots.old.ranks
+        → IsSolid 64 slots.new.marks slots.new.ranks }
+    ensures bound { slots.new.solid ≡ slots.old.solid }
 {
-    let last = slot_at(ranks, 63);
-    fill(marks, ranks, slots, guide, last, leaf);
+    let last = slot_at(&slots.ranks, 63);
+    fill(slots, last, leaf);
 }
 
 /// Does what `bring_in_front` does, place after place.
-fn bring_in_turn(
-    marks: &mut [u8; WIDEST],
-    ranks: &mut [u8; WIDEST],
-    slots: &mut [Place; WIDEST],
-    guide: &mut [u8; MARKS],
-    leaf: Place,
-) -> Option<usize>
+fn bring_in_turn(slots: &mut Slots, leaf: Place) -> Option<usize>
     requires solid { is_vacant leaf ≡ false }
-    requires kept { IsStack marks.old ranks.old slots.old }
-    requires guided { IsGuide guide.old marks.old ranks.old }
-    ensures moved { in_turn ranks.new (places_of slots.new) ≡ take 64 (shifted
-        (same_leaf (leaf_in leaf)) (leaf_in leaf) (in_turn ranks.old (places_of slots.old))) }
-    ensures distance { result ≡
-        distance (same_leaf (leaf_in leaf)) (in_turn ranks.old (places_of slots.old)) }
-    ensures kept { IsStack marks.new ranks.new slots.new }
-    ensures guided { IsGuide guide.new marks.new ranks.new }
+    requires kept { IsGuided slots.old }
+    ensures front { IsInFront (leaf_in leaf) (list_of slots.old) result (list_of slots.new) }
+    ensures kept { IsGuided slots.new }
 {
-    match first_gap(marks, ranks, slots, leaf) {
-        Some(slot) => close_gap(marks, ranks, slots, guide, slot, leaf),
+    match first_gap(&slots.marks, &slots.ranks, &slots.places, leaf) {
+        Some(slot) => close_gap(slots, slot, leaf),
         None => {
-            bring_anew(marks, ranks, slots, guide, leaf);
+            bring_anew(slots, leaf);
             None
         }
     }
@@ -329,34 +307,18 @@ fn bring_in_turn(
 /// Does what `bring_in_front` does, where the guide's slot doesn't have the leaf, or a hole may be
 /// in front of it. Out of line, since most accesses hit.
 #[inline(never)]
-fn bring_apart(
-    marks: &mut [u8; WIDEST],
-    ranks: &mut [u8; WIDEST],
-    slots: &mut [Place; WIDEST],
-    guide: &mut [u8; MARKS],
-    solid: &mut u8,
-    leaf: Place,
-) -> Option<usize>
+fn bring_apart(slots: &mut Slots, leaf: Place) -> Option<usize>
     requires solid { is_vacant leaf ≡ false }
-    requires kept { IsStack marks.old ranks.old slots.old }
-    requires guided { IsGuide guide.old marks.old ranks.old }
-    requires front { IsSolid solid.old marks.old ranks.old }
-    requires most { solid.old ≤ 64 }
-    ensures moved { in_turn ranks.new (places_of slots.new) ≡ take 64 (shifted
-        (same_leaf (leaf_in leaf)) (leaf_in leaf) (in_turn ranks.old (places_of slots.old))) }
-    ensures distance { result ≡
-        distance (same_leaf (leaf_in leaf)) (in_turn ranks.old (places_of slots.old)) }
-    ensures kept { IsStack marks.new ranks.new slots.new }
-    ensures guided { IsGuide guide.new marks.new ranks.new }
-    ensures front { IsSolid solid.new marks.new ranks.new }
-    ensures most { solid.new ≤ 64 }
+    requires kept { IsSlots slots.old }
+    ensures front { IsInFront (leaf_in leaf) (list_of slots.old) result (list_of slots.new) }
+    ensures kept { IsSlots slots.new }
 {
-    if *solid == 64 && !is_marked(marks, leaf.mark()) {
-        bring_anew(marks, ranks, slots, guide, leaf);
+    if slots.solid == 64 && !is_marked(&slots.marks, leaf.mark()) {
+        bring_anew(slots, leaf);
         return None;
     }
-    let distance = bring_in_turn(marks, ranks, slots, guide, leaf);
-    *solid = first_hole(marks, ranks);
+    let distance = bring_in_turn(slots, leaf);
+    slots.solid = first_hole(&slots.marks, &slots.ranks);
     distance
 }
 
@@ -380,34 +342,18 @@ fn has_leaf(
 /// none is a hole and none has the leaf. Mostly the guide's slot has the leaf, and no hole is in
 /// front of it.
 #[inline(always)]
-pub(crate) fn bring_in_front(
-    marks: &mut [u8; WIDEST],
-    ranks: &mut [u8; WIDEST],
-    slots: &mut [Place; WIDEST],
-    guide: &mut [u8; MARKS],
-    solid: &mut u8,
-    leaf: Place,
-) -> Option<usize>
+pub(crate) fn bring_in_front(slots: &mut Slots, leaf: Place) -> Option<usize>
     requires solid { is_vacant leaf ≡ false }
-    requires kept { IsStack marks.old ranks.old slots.old }
-    requires guided { IsGuide guide.old marks.old ranks.old }
-    requires front { IsSolid solid.old marks.old ranks.old }
-    requires most { solid.old ≤ 64 }
-    ensures moved { in_turn ranks.new (places_of slots.new) ≡ take 64 (shifted
-        (same_leaf (leaf_in leaf)) (leaf_in leaf) (in_turn ranks.old (places_of slots.old))) }
-    ensures distance { result ≡
-        distance (same_leaf (leaf_in leaf)) (in_turn ranks.old (places_of slots.old)) }
-    ensures kept { IsStack marks.new ranks.new slots.new }
-    ensures guided { IsGuide guide.new marks.new ranks.new }
-    ensures front { IsSolid solid.new marks.new ranks.new }
-    ensures most { solid.new ≤ 64 }
+    requires kept { IsSlots slots.old }
+    ensures front { IsInFront (leaf_in leaf) (list_of slots.old) result (list_of slots.new) }
+    ensures kept { IsSlots slots.new }
 {
-    let slot = slot_guided(guide, leaf.mark());
-    if !has_leaf(ranks, slots, slot, *solid, leaf) {
-        return bring_apart(marks, ranks, slots, guide, solid, leaf);
+    let slot = slot_guided(&slots.guide, leaf.mark());
+    if !has_leaf(&slots.ranks, &slots.places, slot, slots.solid, leaf) {
+        return bring_apart(slots, leaf);
     }
-    let rank = ranks[slot];
-    move_to_front(ranks, rank);
+    let rank = slots.ranks[slot];
+    move_to_front(&mut slots.ranks, rank);
     Some(rank as usize)
 }
 
@@ -446,5 +392,22 @@ pub(crate) fn vacate_where<P: Fn(&Leaf) -> bool>(
         let place = without(slots[at], test);
         slots[at] = place;
         marks[at] = place.mark();
+    }
+}
+
+/// Makes a hole of each place that has the tag of a name.
+pub(crate) fn vacate_named(marks: &mut [u8; WIDEST], slots: &mut [Place; WIDEST], named: Place)
+    requires marks { AreMarks marks.old slots.old }
+    ensures purged { (space first : ℕ) (o : Order) → IsNamed space first o named →
+        places_of slots.new ≡ map (place_without (is_leaf space first o)) (places_of slots.old) }
+    ensures thinned { AreThinned (places_of slots.old) (places_of slots.new) }
+    ensures marks { AreMarks marks.new slots.new }
+    ensures fewer { AreFewer marks.old marks.new }
+{
+    for at in 0..WIDEST {
+        if slots[at].has_tag(named) {
+            slots[at] = HOLE;
+            marks[at] = HOLE_MARK;
+        }
     }
 }

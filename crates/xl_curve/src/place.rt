@@ -1,9 +1,10 @@
 //! What a place of a list has: a leaf, or nothing.
 
-ghost use Rattle.std.specs.Prelude.{◌≡◌, ◌<◌, ◌^◌, true, false, IfSome};
+ghost use Rattle.std.specs.Prelude.{◌≡◌, ◌==◌, ◌<◌, ◌^◌, true, false, IfSome};
 ghost use Rattle.xl_curve.specs.Places.{IsNamed, gives_way as gives_way_to, is_vacant, leaf_in as leaf_kept, mark_of, place_of, same_words};
 ghost use Rattle.xl_model.specs.Addresses.{order_at};
 ghost use Rattle.xl_array.specs.Arrays.{IsFit};
+ghost use Rattle.xl_model.specs.LeafWords.{small_leaf};
 ghost use Rattle.xl_curve_model.specs.Curves.{same_leaf};
 ghost use Rattle.xl_model.specs.Ranges.{same_perm};
 
@@ -76,6 +77,20 @@ impl Place {
         }
     }
 
+    /// The place of the leaf of 4 KiB of a page, with the frame (times 16) and the permission of
+    /// this word.
+    #[inline(always)]
+    pub fn small(space: u16, page: u64, word: u64) -> Place
+        requires { IsFit (small_leaf space page word) }
+        ensures solid { is_vacant result ≡ false }
+        ensures leaf { leaf_kept result ≡ small_leaf space page word }
+    {
+        Place {
+            tag: (page * 64 + space as u64) * 3,
+            word,
+        }
+    }
+
     /// A place whose leaf has this space, first page and order, where a place can have them.
     #[inline(always)]
     pub fn named(space: u16, first: u64, order: Order) -> Option<Place>
@@ -140,6 +155,14 @@ impl Place {
         ensures { result ≡ true → other ≡ self }
     {
         other.tag == self.tag && other.word == self.word
+    }
+
+    /// Whether the place has the tag of the other.
+    #[inline(always)]
+    pub fn has_tag(self, other: Place) -> bool
+        ensures { result ≡ (self.tag == other.tag) }
+    {
+        self.tag == other.tag
     }
 
     /// Whether the place gives way to a leaf that moves to the front: it is no hole, and has

@@ -1,14 +1,17 @@
 //! What purges and fences take from a curve.
 
-ghost use Rattle.std.specs.Prelude.{◌≡◌, ◌<◌, length};
+ghost use Rattle.std.specs.Prelude.{◌≡◌, ◌<◌, ℕ, length};
+ghost use Rattle.xl_curve.specs.Places.{IsNamed};
 ghost use Rattle.xl_curve.specs.Tests.{purges};
 ghost use Rattle.xl_curve.specs.Views.{IsCurve, IsRemovedIn, removed};
 ghost use Rattle.xl_curve_model.specs.Curves.{curve_without};
 ghost use Rattle.xl_model.specs.Mapping.{covers, is_leaf};
 ghost use Rattle.xl_model.specs.Tlb.{covers_as, reaches_leaf};
 ghost use Rattle.xl_array.specs.Arrays.{covers_anywhere, covers_anywhere_as, is_any, is_of_space};
+ghost use Rattle.xl_model.specs.declared.address.Order.{Order as OrderOf};
 
 use crate::curve::Curve;
+use crate::place::Place;
 use crate::sets::{remove_in, set_of};
 use crate::stack::Stack;
 use xl_model::{Leaf, Order, Purge, Reach};
@@ -30,15 +33,25 @@ fn is_covering(leaf: &Leaf, space: u16, page: u64, order: Order) -> bool
         && page - leaf.first < leaf.order.pages()
 }
 
-/// Removes the leaf of this space, first page and order from one set. Mostly it isn't there.
+/// Removes the leaves of a name from one set.
+fn remove_place_in(stacks: &mut [Stack], set: usize, named: Place)
+    requires { set < length stacks.old }
+    ensures { (space first : ℕ) (o : OrderOf) → IsNamed space first o named →
+        IsRemovedIn (is_leaf space first o) set stacks.old stacks.new }
+{
+    let stack = &mut stacks[set];
+    stack.remove_named(named);
+}
+
+/// Removes the leaf of this space, first page and order from one set.
 fn remove_named_in(stacks: &mut [Stack], set: usize, space: u16, first: u64, order: Order)
     requires { set < length stacks.old }
     ensures { IsRemovedIn (is_leaf space first order) set stacks.old stacks.new }
 {
-    if stacks[set].lacks(space, first, order) {
-        return;
+    match Place::named(space, first, order) {
+        Some(named) => remove_place_in(stacks, set, named),
+        None => remove_in(stacks, set, |leaf| is_named(leaf, space, first, order)),
     }
-    remove_in(stacks, set, |leaf| is_named(leaf, space, first, order));
 }
 
 /// Removes the leaf of this space and order that covers the page from one set.

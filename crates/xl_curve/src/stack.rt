@@ -1,43 +1,38 @@
 //! The list of places of one set.
 
-ghost use Rattle.std.specs.Prelude.{◌≡◌, ◌<◌, true, false, None, map, replicate, take, IfSome};
+ghost use Rattle.std.specs.Prelude.{◌≡◌, ◌<◌, ℕ, false, None, map, replicate, IfSome};
 ghost use Rattle.std.specs.Fn.{FnReturnsAt};
-ghost use Rattle.xl_curve.specs.Places.{IsThinned, distance, is_vacant, leaf_in, place_without, shifted};
-ghost use Rattle.xl_curve_model.specs.Curves.{same_leaf};
+ghost use Rattle.xl_curve.specs.Places.{IsNamed, IsThinned, is_vacant, leaf_in, place_without};
+ghost use Rattle.xl_curve.specs.Slots.{IsInFront};
 ghost use Rattle.xl_model.specs.Mapping.{is_leaf};
+ghost use Rattle.xl_model.specs.declared.address.Order.{Order as OrderOf};
 ghost use Rattle.xl_recency.specs.Lists.{IsTest};
 
 use crate::kernel::{
-    MARKS, WIDEST, bring_in_front, first_hole, lacks, ranks_in_turn, vacate_where,
+    MARKS, Slots, WIDEST, bring_in_front, first_hole, lacks, ranks_in_turn, vacate_named,
+    vacate_where,
 };
 use crate::place::{HOLE, HOLE_MARK, Place};
 use std::marker::Model;
-use xl_model::{Leaf, Order};
+use xl_model::Leaf;
 
 /// A recency list of 64 places, of which some are holes. Contracts see what each place has, the
 /// newest first. What a place has is kept in a slot, whose rank says which place it is.
 #[derive(Drop)]
 pub(crate) struct Stack {
-    marks: [u8; WIDEST],
-    ranks: [u8; WIDEST],
-    slots: [Place; WIDEST],
-    /// For each mark the slot that a leaf of it was put into last.
-    guide: [u8; MARKS],
-    /// No hole has a lower rank.
-    solid: u8,
+    slots: Slots,
 }
 
 impl Model for Stack {
-    ghost use Rattle.std.specs.Prelude.{◌≤◌, List, Option};
+    ghost use Rattle.std.specs.Prelude.{List, Option};
     ghost use Rattle.xl_model.specs.declared.leaf.Leaf.{Leaf};
-    ghost use Rattle.xl_curve.specs.Places.{IsGuide, IsSolid, IsStack, in_turn, places_of};
+    ghost use Rattle.xl_curve.specs.Slots.{IsSlots, list_of};
 
     ghost Value = { List (Option Leaf) };
 
-    ghost view = { λ s. in_turn s.ranks (places_of s.slots) };
+    ghost view = { λ s. list_of s.slots };
 
-    ghost invariant = { λ s. IsStack s.marks s.ranks s.slots × IsGuide s.guide s.marks s.ranks
-        × IsSolid s.solid s.marks s.ranks × (s.solid ≤ 64) };
+    ghost invariant = { λ s. IsSlots s.slots };
 }
 
 impl Stack {
@@ -47,11 +42,13 @@ impl Stack {
         ensures { result ≡ replicate 64 None }
     {
         Stack {
-            marks: [HOLE_MARK; WIDEST],
-            ranks: ranks_in_turn(),
-            slots: [HOLE; WIDEST],
-            guide: [0; MARKS],
-            solid: 0,
+            slots: Slots {
+                marks: [HOLE_MARK; WIDEST],
+                ranks: ranks_in_turn(),
+                places: [HOLE; WIDEST],
+                guide: [0; MARKS],
+                solid: 0,
+            },
         }
     }
 
@@ -60,31 +57,23 @@ impl Stack {
     #[inline(always)]
     pub fn access(&mut self, leaf: Place) -> Option<usize>
         requires { is_vacant leaf ≡ false }
-        ensures moved { self.new ≡
-            take 64 (shifted (same_leaf (leaf_in leaf)) (leaf_in leaf) self.old) }
-        ensures distance { result ≡ distance (same_leaf (leaf_in leaf)) self.old }
+        ensures front { IsInFront (leaf_in leaf) self.old result self.new }
         ensures below { IfSome result (λ d. d < 64) }
     {
-        bring_in_front(
-            &mut self.marks,
-            &mut self.ranks,
-            &mut self.slots,
-            &mut self.guide,
-            &mut self.solid,
-            leaf,
-        )
+        bring_in_front(&mut self.slots, leaf)
     }
 
-    /// Whether no place has the leaf of this space, first page and order, by marks alone.
-    #[inline(always)]
-    pub fn lacks(&self, space: u16, first: u64, order: Order) -> bool
-        ensures { result ≡ true → map (place_without (is_leaf space first order)) self.now
-            ≡ self.now }
+    /// Removes the leaves of a name. They leave holes. Mostly there are none.
+    pub fn remove_named(&mut self, named: Place)
+        ensures removed { (space first : ℕ) (o : OrderOf) → IsNamed space first o named →
+            self.new ≡ map (place_without (is_leaf space first o)) self.old }
+        ensures thinned { IsThinned self.old self.new }
     {
-        match Place::named(space, first, order) {
-            Some(named) => lacks(&self.marks, &self.slots, named),
-            None => false,
+        if lacks(&self.slots.marks, &self.slots.places, named) {
+            return;
         }
+        vacate_named(&mut self.slots.marks, &mut self.slots.places, named);
+        self.slots.solid = first_hole(&self.slots.marks, &self.slots.ranks);
     }
 
     /// Removes the leaves that pass the test. They leave holes.
@@ -94,7 +83,7 @@ impl Stack {
             self.new ≡ map (place_without q) self.old }
         ensures thinned { IsThinned self.old self.new }
     {
-        vacate_where(&mut self.marks, &mut self.slots, test);
-        self.solid = first_hole(&self.marks, &self.ranks);
+        vacate_where(&mut self.slots.marks, &mut self.slots.places, test);
+        self.slots.solid = first_hole(&self.slots.marks, &self.slots.ranks);
     }
 }

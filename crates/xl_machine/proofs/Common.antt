@@ -19,7 +19,6 @@ pub use Rattle.xl_model.specs.Rows.{is_array, is_width, is_within, IsRow, levels
 pub use Rattle.xl_model.specs.Rules.{fence_rule, frames_rule, named_rule, overlap_rule, place_rule, there_rule, unless}
 unfoldable pub use Rattle.xl_model.specs.Rules.{change_of, rule}
 pub use Rattle.xl_model.specs.Scenes.{Served}
-pub use Rattle.xl_model.specs.PageWalks.{IsSameWalk}
 pub use Rattle.xl_model.specs.Structures.{after_by, answer_by, fence_answer, IsBlock, IsChange, IsLeafFor, IsPage, IsWalk, Made, NoPlace, NoSpace, page_limit, spaces_of, TableState, Verdict, verdict}
 unfoldable pub use Rattle.xl_model.specs.Structures.{table_after, table_answer, table_fenced, table_made, table_walked, walk_answer}
 pub use Rattle.xl_model.specs.Tally.{IsSmall}
@@ -51,4 +50,4 @@ pub use Rattle.xl_array.specs.Arrays.{InLimits, IsFit}
 pub use Rattle.xl_tlb.specs.Tlbs.{AreSpecs, IsRising, IsSpec, leaf_replied, looked_arrays, NoneBelow, TlbState}
 unfoldable pub use Rattle.xl_tlb.specs.Tlbs.{tlb_fenced, tlb_filled, tlb_looked, tlb_opening, tlb_purged}
 pub use Rattle.xl_machine.specs.Rules.{rule_of, there_of}
-pub use Rattle.xl_machine.specs.Served.{accessed_by, after_of, counts_of, done_counts, fence_counts, HasPage, IsFound, IsReply, IsRowFor, IsSameAccess, IsSameWalked, IsServed, opened, refused_by, served, state_of, walked_by}
+pub use Rattle.xl_machine.specs.Served.{accessed_by, after_of, counts_of, done_counts, fence_counts, HasPage, IsFound, IsFoundSmall, IsReply, IsRowFor, IsSameAccess, IsSameWalked, IsServed, opened, refused_by, served, state_of, walked_by}

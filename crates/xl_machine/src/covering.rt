@@ -17,6 +17,14 @@ impl<S: Structure> Machine<S> {
         self.span.canonical(va)
     }
 
+    /// The page of an address.
+    #[inline(always)]
+    pub fn page_of(&self, va: u64) -> u64
+        ensures { result ≡ page_of self.now.row.mode va }
+    {
+        self.span.page_of(va)
+    }
+
     /// The leaf that covers the page of an address in the current space.
     #[inline(always)]
     pub fn covering(&self, va: u64) -> Option<Leaf>

@@ -1,5 +1,8 @@
 use Rattle.std.proofs.Common.{sym, ◌∙◌, ap}
 use Rattle.xl_model.specs.declared.event.Outcome.TheVariants as outcome
+use Rattle.xl_model.specs.Addresses.{page_of}
+use Rattle.xl_model.specs.LeafWords.{small_leaf}
+use Rattle.xl_model.specs.declared.leaf.Leaf.{Leaf}
 use Rattle.xl_model.specs.declared.leaf.Reply.{Reply}
 use Rattle.xl_chart.proofs.FollowLemmas.{found_followed, reply_outcome, same_followed}
 use Rattle.xl_chart.proofs.beside.access_both.Goals as goal
@@ -8,16 +11,17 @@ pub returns-in-Some : goal.returns-in-Some
 returns-in-Some g c =
     let v = c.args.machine.now in
     let found = c.in-Some.ensures.some in
+    let leaf : Leaf = small_leaf v.state.space (page_of v.row.mode c.args.va) c.in-Some.word in
     record {
       outcome = ap (λ (r : Reply). outcome.Replied r) (sym found.reply_is) ∙ reply_outcome v.row c.args.va c.args.kind v.state;
       machine = found.after;
-      curve = c.access.ensures ∙ found_followed v.row c.args.va c.args.kind v.state c.args.curve.now c.in-Some.leaf found.canonical found.leaf_is;
+      curve = rw (c.space-space.ensures, c.page_of-page.ensures) at c.access_small.ensures ∙ found_followed v.row c.args.va c.args.kind v.state c.args.curve.now leaf found.canonical found.leaf_is;
     }
 
 pub returns-clause-outcome : goal.returns-clause-outcome
 returns-clause-outcome g c =
     let v = c.args.machine.now in
-    ap (λ (r : Reply). outcome.Replied r) (c.access-2.ensures.reply_is ∙ c.in_default.ensures.none.reply_is) ∙ reply_outcome v.row c.args.va c.args.kind v.state
+    ap (λ (r : Reply). outcome.Replied r) (c.access.ensures.reply_is ∙ c.in_default.ensures.none.reply_is) ∙ reply_outcome v.row c.args.va c.args.kind v.state
 
 pub returns-clause-curve : goal.returns-clause-curve
 returns-clause-curve g c =

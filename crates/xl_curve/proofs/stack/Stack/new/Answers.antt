@@ -3,12 +3,14 @@ use Rattle.xl_curve.proofs.RankLemmas.{turn_none}
 use Rattle.xl_curve.proofs.stack.Stack.new.Goals as goal
 
 pub invariant_of-result : goal.invariant_of-result
-invariant_of-result c = (
-  record { marked = refl; ranked = c.ranks_in_turn.ensures.ranks; apart = c.ranks_in_turn.ensures.apart },
-  λ s l n. absurd (n (get_or-replicate 64 s 255 0 l)),
-  λ s l e. omega arith,
-  omega arith,
-)
+invariant_of-result c = record {
+  guided = record {
+    stack = record { marked = refl; ranked = c.ranks_in_turn.ensures.ranks; apart = c.ranks_in_turn.ensures.apart };
+    guide_is = λ s l n. absurd (n (get_or-replicate 64 s 255 0 l));
+  };
+  front = λ s l e. omega arith;
+  most = omega arith;
+}
 
 pub returns : goal.returns
 unfolding place_of

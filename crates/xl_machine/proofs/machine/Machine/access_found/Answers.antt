@@ -26,5 +26,5 @@ returns-clause-some g c =
     let paged : HasPage (row_of c.self.inside.row) c.args.va c.page_of-page.result = has_page (row_of c.self.inside.row) c.self.invariant.span_is c.canonical.ensures c.if-not-canonical.false c.page_of-page.ensures in
     let nowhere = c.lacks_tlb.ensures.looked c.if-not-lacks_tlb.false c.args.kind c.self.inside.space c.page_of-page.result in
     let filled = c.lacks_tlb.ensures.filled c.if-not-lacks_tlb.false c.args.kind (small_leaf c.self.inside.space c.page_of-page.result c.in_ok-word.word) in
-    rw (c.small.ensures, c.count_small.ensures.counts, ← c.self.view_is)
+    rw (c.count_small.ensures.counts, ← c.self.view_is)
     (small_found c.self.invariant.served c.page_of-page.result paged c.args.kind c.self.inside.counts c.in_ok-word.word _ nowhere filled c.in_ok-word.ensures.some.walks c.in_ok-word.ensures.some.allowed)
