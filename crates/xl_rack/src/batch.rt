@@ -118,13 +118,29 @@ fn serve_in_turn(slots: &mut [Slot], accesses: &[Access], events: &[BatchedEvent
     serve_in_turn(rest, accesses, events, areas);
 }
 
+/// Serves the map that an area demands for an address, and where it is done, the access once more.
+#[inline(never)]
+fn demand_of_slot(slot: &mut Slot, va: u64, kind: Kind, areas: &Areas)
+    ensures served { served_of slot.new ≡ demand_served va kind areas.now (served_of slot.old) }
+    ensures form { slot_form slot.new ≡ slot_form slot.old }
+{
+    let Some(area) = areas.find(slot.brief().space, va) else {
+        return;
+    };
+    if let Outcome::Done = slot.step(map_for(area, va)) {
+        let _outcome = slot.step(Event::Access { va, kind });
+    }
+}
+
 /// Serves an access, with the events of its demand, to the machine of a slot.
 #[inline(always)]
 fn serve_slot_once(slot: &mut Slot, va: u64, kind: Kind, areas: &Areas)
     ensures served { served_of slot.new ≡ access_served va kind areas.now (served_of slot.old) }
     ensures form { slot_form slot.new ≡ slot_form slot.old }
 {
-    at_table!(slot, machine => serve_one::<_, false, false>(machine, va, kind, areas))
+    if let Reply::Unmapped = slot.access(va, kind) {
+        demand_of_slot(slot, va, kind, areas);
+    }
 }
 
 /// Serves an access, with the events of its demand, to each slot.
@@ -181,18 +197,11 @@ fn serve_side_by_side(
     serve_side_by_side(slots, following, later, areas);
 }
 
-/// Whether a slot's machine has no arrays.
-fn lacks_tlb(slot: &Slot) -> bool
-    ensures { result ≡ has_no_arrays slot.now }
-{
-    at_table!(slot, machine => machine.lacks_tlb())
-}
-
 /// Whether the machine of one of these slots has no arrays.
 fn one_lacks_tlb(slots: &[Slot]) -> bool
     ensures { result ≡ list_any has_no_arrays slots.now }
 {
-    slots.iter().any(|slot| lacks_tlb(slot))
+    slots.iter().any(|slot| slot.brief().lacks_tlb)
 }
 
 /// Whether these slots are served side by side: several, all with a TLB. Without a TLB a machine is
