@@ -118,29 +118,13 @@ fn serve_in_turn(slots: &mut [Slot], accesses: &[Access], events: &[BatchedEvent
     serve_in_turn(rest, accesses, events, areas);
 }
 
-/// Serves the map that an area demands for an address, and where it is done, the access once more.
-#[inline(never)]
-fn demand_of_slot(slot: &mut Slot, va: u64, kind: Kind, areas: &Areas)
-    ensures served { served_of slot.new ≡ demand_served va kind areas.now (served_of slot.old) }
-    ensures form { slot_form slot.new ≡ slot_form slot.old }
-{
-    let Some(area) = areas.find(slot.brief().space, va) else {
-        return;
-    };
-    if let Outcome::Done = slot.step(map_for(area, va)) {
-        let _outcome = slot.step(Event::Access { va, kind });
-    }
-}
-
 /// Serves an access, with the events of its demand, to the machine of a slot.
 #[inline(always)]
 fn serve_slot_once(slot: &mut Slot, va: u64, kind: Kind, areas: &Areas)
     ensures served { served_of slot.new ≡ access_served va kind areas.now (served_of slot.old) }
     ensures form { slot_form slot.new ≡ slot_form slot.old }
 {
-    if let Reply::Unmapped = slot.access(va, kind) {
-        demand_of_slot(slot, va, kind, areas);
-    }
+    at_table!(slot, machine => serve_one::<_, false, false>(machine, va, kind, areas))
 }
 
 /// Serves an access, with the events of its demand, to each slot.

@@ -241,7 +241,6 @@ impl Slot {
     }
 
     /// Serves an access.
-    #[inline(always)]
     pub(crate) fn access(&mut self, va: u64, kind: Kind) -> Reply
         ensures reply { result ≡
             reply_to (served_of self.old).row (served_of self.old).state va kind }
