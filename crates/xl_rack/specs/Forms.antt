@@ -1,13 +1,10 @@
--- The forms of a machine, one for each variant that is handed out.
+-- The forms of a machine, one for each variant of a slot.
 use Rattle.std.specs.Prelude.{ℕ, zero, suc, ◌≡◌, Option, None, Some}
 use Rattle.xl_model.specs.declared.address.Mode.{Mode}
 use Rattle.xl_model.specs.declared.address.Mode.TheVariants as mode
 use Rattle.xl_model.specs.declared.row.Table.{Table}
 use Rattle.xl_model.specs.declared.row.Table.TheVariants as table
 use Rattle.xl_model.specs.Rows.{Row}
-use Rattle.xl_model.specs.Scenes.{Served}
-use Rattle.xl_rack.specs.declared.held.Held.{Held}
-use Rattle.xl_rack.specs.declared.held.Held.TheVariants as held
 
 -- What a machine is over: a radix table of three, four or five levels, a hashed
 -- table, a clustered table, a cuckoo table of two, three or four ways, or a table
@@ -52,27 +49,3 @@ IsCuckoo count _ = ⊥
 -- The form that a row names.
 abbrev pub form_named : Row → Option Form
 form_named row = form_by row.mode row.table
-
--- The form of a machine that is handed out.
-abbrev pub form_of : Held → Form
-form_of (held.Sv39 m) = Radix3
-form_of (held.Sv48 m) = Radix4
-form_of (held.Sv57 m) = Radix5
-form_of (held.Hashed m) = HashedForm
-form_of (held.Clustered m) = ClusteredForm
-form_of (held.Cuckoo2 m) = CuckooForm2
-form_of (held.Cuckoo3 m) = CuckooForm3
-form_of (held.Cuckoo4 m) = CuckooForm4
-form_of (held.Range m) = RangeForm
-
--- The row and the state of a machine that is handed out.
-abbrev pub served_following : Held → Served
-served_following (held.Sv39 m) = m.now
-served_following (held.Sv48 m) = m.now
-served_following (held.Sv57 m) = m.now
-served_following (held.Hashed m) = m.now
-served_following (held.Clustered m) = m.now
-served_following (held.Cuckoo2 m) = m.now
-served_following (held.Cuckoo3 m) = m.now
-served_following (held.Cuckoo4 m) = m.now
-served_following (held.Range m) = m.now

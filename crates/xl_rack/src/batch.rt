@@ -181,18 +181,11 @@ fn serve_side_by_side(
     serve_side_by_side(slots, following, later, areas);
 }
 
-/// Whether a slot's machine has no arrays.
-fn lacks_tlb(slot: &Slot) -> bool
-    ensures { result ≡ has_no_arrays slot.now }
-{
-    at_table!(slot, machine => machine.lacks_tlb())
-}
-
 /// Whether the machine of one of these slots has no arrays.
 fn one_lacks_tlb(slots: &[Slot]) -> bool
     ensures { result ≡ list_any has_no_arrays slots.now }
 {
-    slots.iter().any(|slot| lacks_tlb(slot))
+    slots.iter().any(|slot| slot.brief().lacks_tlb)
 }
 
 /// Whether these slots are served side by side: several, all with a TLB. Without a TLB a machine is

@@ -3,10 +3,10 @@
 ghost use Rattle.std.specs.Prelude.{is_ok};
 ghost use Rattle.xl_model.specs.Report.{image_lines, images_lines};
 ghost use Rattle.xl_outside.specs.Sinks.{SinkAfter};
-ghost use Rattle.xl_rack.specs.Forms.{served_following};
+ghost use Rattle.xl_rack.specs.Slots.{served_of};
 
-use crate::held::Held;
 use crate::rack::Rack;
+use crate::slot::Slot;
 use xl_image::write_table;
 use xl_machine::Machine;
 use xl_outside::{Failed, Sink};
@@ -26,39 +26,39 @@ fn write_radix<const LEVELS: usize, K: Sink>(
 
 /// Writes the image of a machine's table. Only a radix table has one.
 #[tactic(auto, unfolding(xl_cuckoo_walk::specs::Parts::row_state))]
-fn write_held<K: Sink>(out: &mut K, held: Held<'_>) -> Result<(), Failed>
+fn write_slot<K: Sink>(out: &mut K, slot: &Slot) -> Result<(), Failed>
     ensures { SinkAfter K.sink
-        (image_lines (served_following held.entry).row.name
-        (served_following held.entry).state.table.leaves
-        (served_following held.entry).state.table.shape)
+        (image_lines (served_of slot.now).row.name
+        (served_of slot.now).state.table.leaves
+        (served_of slot.now).state.table.shape)
         out.old out.new (is_ok result) }
 {
-    match held {
-        Held::Sv39(machine) => write_radix(out, machine),
-        Held::Sv48(machine) => write_radix(out, machine),
-        Held::Sv57(machine) => write_radix(out, machine),
-        Held::Hashed(machine) => {
+    match slot {
+        Slot::Sv39(machine) => write_radix(out, machine),
+        Slot::Sv48(machine) => write_radix(out, machine),
+        Slot::Sv57(machine) => write_radix(out, machine),
+        Slot::Hashed(machine) => {
             // The table's shape is known by a look at it.
             let _table = machine.table();
             Ok(())
         }
-        Held::Clustered(machine) => {
+        Slot::Clustered(machine) => {
             let _table = machine.table();
             Ok(())
         }
-        Held::Cuckoo2(machine) => {
+        Slot::Cuckoo2(machine) => {
             let _table = machine.table();
             Ok(())
         }
-        Held::Cuckoo3(machine) => {
+        Slot::Cuckoo3(machine) => {
             let _table = machine.table();
             Ok(())
         }
-        Held::Cuckoo4(machine) => {
+        Slot::Cuckoo4(machine) => {
             let _table = machine.table();
             Ok(())
         }
-        Held::Range(machine) => {
+        Slot::Range(machine) => {
             let _table = machine.table();
             Ok(())
         }
@@ -71,7 +71,7 @@ pub(crate) fn write_images<K: Sink>(rack: &Rack, out: &mut K) -> Result<(), Fail
         (is_ok result) }
 {
     for i in 0..rack.len() {
-        match write_held(out, rack.machine(i)) {
+        match write_slot(out, rack.machine(i)) {
             Ok(()) => {}
             Err(failed) => return Err(failed),
         }

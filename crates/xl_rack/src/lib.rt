@@ -5,12 +5,11 @@
 mod batch;
 mod beside;
 mod demand;
-mod held;
 mod image;
 mod object;
 mod rack;
 mod rows;
 mod slot;
 
-pub use held::Held;
 pub use rack::Rack;
+pub use slot::Slot;

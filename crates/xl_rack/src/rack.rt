@@ -8,15 +8,14 @@ ghost use Rattle.xl_model.specs.Rows.{row_of, IsRow};
 ghost use Rattle.xl_model.specs.Scenes.{opened};
 ghost use Rattle.xl_model.specs.Tally.{IsSmall};
 ghost use Rattle.xl_serving.specs.Batches.{gaps};
-ghost use Rattle.xl_rack.specs.Forms.{form_named, form_of, served_following};
+ghost use Rattle.xl_rack.specs.Forms.{form_named};
 ghost use Rattle.xl_rack.specs.Batches.{row_served, batch_served};
 ghost use Rattle.xl_rack.specs.Beside.{curve_served, curve_stepped, each_curve};
 ghost use Rattle.xl_rack.specs.Places.{at_place};
-ghost use Rattle.xl_rack.specs.Slots.{served_of, IsNamed};
+ghost use Rattle.xl_rack.specs.Slots.{served_of, slot_form, IsNamed};
 
 use crate::batch::serve_slots;
-use crate::beside::{serve_slots_beside, step_slots_beside};
-use crate::held::Held;
+use crate::beside::{Part, serve_slots_beside};
 use crate::slot::Slot;
 use std::alloc::Global;
 use std::marker::Model;
@@ -154,7 +153,7 @@ impl Rack {
         ensures rows { self.new ≡ map (after_of event) self.old }
         ensures curves { curves.new ≡ each_curve (curve_stepped event) self.old curves.old }
     {
-        step_slots_beside(&mut self.slots, curves, event)
+        serve_slots_beside(&mut self.slots, curves, &Part::Event(event))
     }
 
     /// Serves accesses, with the events of their demands, by each machine in turn, and a curve
@@ -164,7 +163,7 @@ impl Rack {
         ensures curves { curves.new
             ≡ each_curve (curve_served accesses.now areas.now) self.old curves.old }
     {
-        serve_slots_beside(&mut self.slots, curves, accesses, areas)
+        serve_slots_beside(&mut self.slots, curves, &Part::Accesses(accesses, areas))
     }
 
     /// The row at a place, from 0.
@@ -172,7 +171,7 @@ impl Rack {
         requires { i < length self.now }
         ensures { IfSome (slice_get self.entry.now i) (λ v. row_of result.now ≡ v.row) }
     {
-        self.slots[i].row()
+        self.slots[i].brief().row
     }
 
     /// The current space of the row at a place, from 0.
@@ -180,7 +179,7 @@ impl Rack {
         requires { i < length self.now }
         ensures { IfSome (slice_get self.now i) (λ v. result ≡ v.state.space) }
     {
-        self.slots[i].space()
+        self.slots[i].brief().space
     }
 
     /// The counts so far of the row at a place, from 0.
@@ -193,12 +192,12 @@ impl Rack {
     }
 
     /// The machine at a place, from 0.
-    pub fn machine(&self, i: usize) -> Held<'_>
+    pub fn machine(&self, i: usize) -> &Slot
         requires { i < length self.now }
-        ensures served { slice_get self.entry.now i ≡ Some (served_following result) }
+        ensures served { slice_get self.entry.now i ≡ Some (served_of result.now) }
         ensures form { IfSome (slice_get self.entry.now i)
-            (λ v. form_named v.row ≡ Some (form_of result)) }
+            (λ v. form_named v.row ≡ Some (slot_form result.now)) }
     {
-        self.slots[i].machine()
+        &self.slots[i]
     }
 }

@@ -1,28 +1,27 @@
 //! A place of the rack: a machine over one of the tables.
 
-ghost use Rattle.std.specs.Prelude.{◌≡◌, ◌≤◌, IfOk};
+ghost use Rattle.std.specs.Prelude.{◌≡◌, ◌≤◌, ◌==◌, IfOk, length};
 ghost use Rattle.xl_machine.specs.Served.{accessed_by, after_of, opened};
 ghost use Rattle.xl_model.specs.declared.row.Table.TheVariants as table;
 ghost use Rattle.xl_model.specs.Addresses.{levels_of};
 ghost use Rattle.xl_model.specs.RowRun.{outcome_of, reply_to};
 ghost use Rattle.xl_model.specs.Rows.{row_of, IsRow};
 ghost use Rattle.xl_model.specs.Tally.{IsSmall};
-ghost use Rattle.xl_rack.specs.Forms.{form_of, served_following, IsCuckoo};
+ghost use Rattle.xl_rack.specs.Forms.{IsCuckoo};
 ghost use Rattle.xl_rack.specs.Slots.{served_of, slot_form, IsNamed};
 
-use crate::held::Held;
 use std::alloc::Global;
 use xl_clustered::Clustered;
 use xl_cuckoo_walk::CuckooRow;
 use xl_hashed::Hashed;
 use xl_machine::Machine;
-use xl_model::{Counts, Event, Kind, Mode, NoMemory, Outcome, Reply, Row, Table};
+use xl_model::{Counts, Event, Kind, Mode, NoMemory, Outcome, Reply, Row, Structure, Table};
 use xl_radix_walk::RadixRow;
 use xl_range::Ranges;
 
-/// A machine over one of the tables.
+/// A machine of a rack. The variant is the one that its row's table and mode name.
 #[derive(Drop)]
-pub(crate) enum Slot {
+pub enum Slot {
     Sv39(Machine<RadixRow<3>>),
     Sv48(Machine<RadixRow<4>>),
     Sv57(Machine<RadixRow<5>>),
@@ -52,6 +51,26 @@ macro_rules! at_table {
 }
 
 pub(crate) use at_table;
+
+/// A machine's row, its current space, and whether it has no arrays.
+#[derive(Drop)]
+pub(crate) struct Brief<'a> {
+    pub(crate) row: &'a Row,
+    pub(crate) space: u16,
+    pub(crate) lacks_tlb: bool,
+}
+
+fn brief_of<S: Structure>(machine: &Machine<S>) -> Brief<'_>
+    ensures row { row_of result.row.now ≡ machine.entry.now.row }
+    ensures space { result.space ≡ machine.entry.now.state.space }
+    ensures lacks_tlb { result.lacks_tlb ≡ (length machine.entry.now.state.arrays == 0) }
+{
+    Brief {
+        row: machine.row(),
+        space: machine.space(),
+        lacks_tlb: machine.lacks_tlb(),
+    }
+}
 
 /// The machine of a row with a radix table of LEVELS levels.
 fn open_radix<const LEVELS: usize>(
@@ -232,18 +251,14 @@ impl Slot {
         at_table!(self, machine => machine.access(va, kind))
     }
 
-    /// The row.
-    pub(crate) fn row(&self) -> &Row
-        ensures { row_of result.now ≡ (served_of self.entry.now).row }
+    /// The machine's row and space, and whether it has no arrays.
+    pub(crate) fn brief(&self) -> Brief<'_>
+        ensures row { row_of result.row.now ≡ (served_of self.entry.now).row }
+        ensures space { result.space ≡ (served_of self.entry.now).state.space }
+        ensures lacks_tlb { result.lacks_tlb
+            ≡ (length (served_of self.entry.now).state.arrays == 0) }
     {
-        at_table!(self, machine => machine.row())
-    }
-
-    /// The current space.
-    pub(crate) fn space(&self) -> u16
-        ensures { result ≡ (served_of self.now).state.space }
-    {
-        at_table!(self, machine => machine.space())
+        at_table!(self, machine => brief_of(machine))
     }
 
     /// The counts so far.
@@ -252,23 +267,5 @@ impl Slot {
         ensures few { result.arrays ≤ 6 }
     {
         at_table!(self, machine => machine.counts())
-    }
-
-    /// The machine.
-    pub(crate) fn machine(&self) -> Held<'_>
-        ensures served { served_following result ≡ served_of self.entry.now }
-        ensures form { form_of result ≡ slot_form self.entry.now }
-    {
-        match self {
-            Slot::Sv39(machine) => Held::Sv39(machine),
-            Slot::Sv48(machine) => Held::Sv48(machine),
-            Slot::Sv57(machine) => Held::Sv57(machine),
-            Slot::Hashed(machine) => Held::Hashed(machine),
-            Slot::Clustered(machine) => Held::Clustered(machine),
-            Slot::Cuckoo2(machine) => Held::Cuckoo2(machine),
-            Slot::Cuckoo3(machine) => Held::Cuckoo3(machine),
-            Slot::Cuckoo4(machine) => Held::Cuckoo4(machine),
-            Slot::Range(machine) => Held::Range(machine),
-        }
     }
 }

@@ -39,7 +39,7 @@ pub(crate) fn first_and_rest<T>(items: &mut [T]) -> (&mut T, &mut [T])
 
 /// Looks for the leaf of 4 KiB that is sought in the second array, where the first one misses its
 /// page, which is filled then. Unknown where a larger leaf may answer; then nothing changes.
-#[inline(never)]
+#[inline(always)]
 fn look_second(first: &mut AnyArray, set: usize, second: &mut AnyArray, lookup: Lookup) -> Seen
     requires at { IsAt order_of.K4 set lookup first.old.spec }
     requires lacks { LacksSmall lookup.space lookup.page first.old }
@@ -59,8 +59,8 @@ fn look_second(first: &mut AnyArray, set: usize, second: &mut AnyArray, lookup: 
     Seen::Second { word }
 }
 
-/// Like `look_pair`, where the first array lacks the leaf of 4 KiB, and may have a larger one. Out
-/// of line, so that `look_pair` stays small enough to be in line.
+/// Looks for a larger leaf of the page in the first array, which lacks that of 4 KiB, and then in the
+/// second one. Out of line, so that `look_pair` stays small enough to be in line.
 #[inline(never)]
 fn look_pair_above(first: &mut AnyArray, second: &mut AnyArray, lookup: Lookup) -> Seen
     requires lookup { IsLookup order_of.K4 lookup }
@@ -70,15 +70,18 @@ fn look_pair_above(first: &mut AnyArray, second: &mut AnyArray, lookup: Lookup) 
     ensures { IsPairLook lookup.space lookup.page result first.old second.old first.new second.new }
 {
     let set = first.common_set_of(lookup);
-    match first.touch_large(true, lookup.space, lookup.page) {
-        Some(word) => Seen::Large { word },
-        None => look_second(first, set, second, lookup),
+    if first.has_large() {
+        if let Some(word) = first.touch_large(true, lookup.space, lookup.page) {
+            return Seen::Large { word };
+        }
     }
+    look_second(first, set, second, lookup)
 }
 
-/// Looks for the leaf of 4 KiB that is sought in both arrays, and touches the first one that has
-/// it. Where that is the second, the first is filled. Unknown where a larger leaf may answer; then
-/// nothing changes. With `above` the first one lacks the leaf, and is asked for larger ones.
+/// Looks for the leaf of 4 KiB that is sought in the first array: unknown where it isn't there. With
+/// `above` it isn't there: then the array is asked for larger leaves, and the second array for that
+/// of 4 KiB, with which the first is filled; unknown where a larger leaf may answer. Where it is
+/// unknown, nothing changes.
 #[inline(always)]
 pub(crate) fn look_pair(
     first: &mut AnyArray,
@@ -99,10 +102,7 @@ pub(crate) fn look_pair(
     if let Some(word) = first.touch_common(set, lookup, Order::K4) {
         return Seen::First { word };
     }
-    if first.has_large() {
-        return Seen::Unknown;
-    }
-    look_second(first, set, second, lookup)
+    Seen::Unknown
 }
 
 /// Fills both arrays with the leaf of 4 KiB that is sought.

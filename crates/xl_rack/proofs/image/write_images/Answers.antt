@@ -1,4 +1,4 @@
-use Rattle.xl_rack.proofs.Common.{◌++◌, ◌+◌, ◌∙◌, ◌∷◌, ◌≡◌, [], ap, append-nil, append_assoc, arith, Bool, drop, false, image_lines, images_lines, List, refl, Served, served_following, sink_cut, sink_then, SinkAfter, SinkMeaning, slice_get, Some, subst, suc, sym, take, take-append-drop, true, zero, ℕ}
+use Rattle.xl_rack.proofs.Common.{◌++◌, ◌+◌, ◌∙◌, ◌∷◌, ◌≡◌, [], ap, append-nil, append_assoc, arith, Bool, drop, false, image_lines, images_lines, List, refl, Served, served_of, sink_cut, sink_then, SinkAfter, SinkMeaning, slice_get, Some, subst, suc, sym, take, take-append-drop, true, zero, ℕ}
 use Rattle.xl_rack.proofs.image.write_images.Goals as goal
 
 -- the image of one row
@@ -32,11 +32,11 @@ module _ {K : Type 0} (sink : SinkMeaning K) where
 
 pub returns-in-Err : goal.returns-in-Err
 returns-in-Err g c =
-    images-cut g.K.Sink.sink c.args.rack.now (c.loop-i.i + 1) c.args.out.now c.write_held.new.out
-    (image-written g.K.Sink.sink c.args.rack.now c.loop-i.i (served_following c.machine.result) c.args.out.now c.loop-i.out c.write_held.new.out false
+    images-cut g.K.Sink.sink c.args.rack.now (c.loop-i.i + 1) c.args.out.now c.write_slot.new.out
+    (image-written g.K.Sink.sink c.args.rack.now c.loop-i.i (served_of c.machine.result.now) c.args.out.now c.loop-i.out c.write_slot.new.out false
     c.machine.ensures.served c.loop-i.invariant c.in-Err.ensures)
 
 pub loop-i-preserved : goal.loop-i-preserved
 loop-i-preserved g c =
-    image-written g.K.Sink.sink c.args.rack.now c.loop-i.i (served_following c.machine.result) c.args.out.now c.loop-i.out c.write_held.new.out true
+    image-written g.K.Sink.sink c.args.rack.now c.loop-i.i (served_of c.machine.result.now) c.args.out.now c.loop-i.out c.write_slot.new.out true
     c.machine.ensures.served c.loop-i.invariant c.in-Ok.ensures
