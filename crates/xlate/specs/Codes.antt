@@ -1,8 +1,7 @@
 -- The program's exit codes.
-use Rattle.std.specs.Prelude.{ℕ, ◌≡◌, List, Option}
+use Rattle.std.specs.Prelude.{ℕ}
 use Rattle.xl_course.specs.declared.status.Status.{Status}
 use Rattle.xl_course.specs.declared.status.Status.TheVariants.{Ok, Usage, BadConfig, BadScript, BadTrace, ReadFault, WriteFault, NoMemory, NoFile}
-use Rattle.xl_course.specs.Accounts.{Account, Answers}
 use Rattle.xlate.specs.declared.NoWords.{NoWords}
 use Rattle.xlate.specs.declared.NoWords.TheVariants as without
 
@@ -22,10 +21,3 @@ code_of NoFile = 8
 abbrev pub code_without : NoWords → ℕ
 code_without without.Memory = 7
 code_without without.Texts = 9
-
--- The exit code is that of a status which says this of the account and of the output before and
--- after the run.
-pub record EndsWithCode (code : ℕ) (a : Account) (before after : Option (List ℕ)) : Type 0 where
-  pub status : Status
-  pub is : code ≡ code_of status
-  pub answers : Answers status a before after

@@ -1,17 +1,17 @@
 //! Runs address-translation designs over a trace of memory accesses.
 #![tactic(auto)]
 
-ghost use Rattle.std.specs.Prelude.{◌≡◌, IfErr, IfOk, IfSome, map, string_bytes};
-ghost use Rattle.xl_bench.specs.Accounts.{account_of};
-ghost use Rattle.xl_course.specs.Accounts.{Answers};
+ghost use Rattle.std.specs.Prelude.{◌≡◌, IfErr, IfOk, map, string_bytes};
 ghost use Rattle.xl_outside.specs.Sinks.{IsFlushed};
-ghost use Rattle.xlate.specs.Codes.{code_of, code_without, EndsWithCode};
+ghost use Rattle.xlate.specs.Codes.{code_of, code_without};
+ghost use Rattle.xlate.specs.Ends.{EndsWithCode, RunEnds};
 
 use std::alloc::Global;
 use std::env;
 use std::io::ErrorKind;
 use std::process::ExitCode;
 use xl_bench::{Machines, Status, run};
+use xl_course::{Stop, report_end};
 use xl_outside::{Folder, HostErr, HostFolder, HostOut, Sink};
 
 /// Why the system gives no words.
@@ -53,9 +53,11 @@ fn answer<F: Folder, K: Sink, E: Sink>(
     requires out_flushed { IsFlushed K.sink out.old }
     requires err_flushed { IsFlushed E.sink err.old }
     ensures lacking { IfErr words (λ why. result ≡ code_without why) }
-    ensures known { IfOk words (λ ws. IfSome (F.folder.files folder.old) (λ fs. EndsWithCode result
-        (account_of (map string_bytes ws.items) fs)
-        (K.sink.outside out.old).written (K.sink.outside out.new).written)) }
+    ensures ends { IfOk words (λ ws. EndsWithCode
+        (record { folder = F.folder; out = K.sink; err = E.sink }) (map string_bytes ws.items)
+        result
+        (record { folder = folder.old; out = out.old; err = err.old })
+        (record { folder = folder.new; out = out.new; err = err.new })) }
 {
     match words {
         Ok(words) => code(serve(alloc, &words, folder, out, err)),
@@ -74,11 +76,13 @@ fn serve<F: Folder, K: Sink, E: Sink>(
 ) -> Status
     requires out_flushed { IsFlushed K.sink out.old }
     requires err_flushed { IsFlushed E.sink err.old }
-    ensures known { IfSome (F.folder.files folder.old) (λ fs. Answers result
-        (account_of (map string_bytes words.now.items) fs)
-        (K.sink.outside out.old).written (K.sink.outside out.new).written) }
+    ensures { RunEnds (record { folder = F.folder; out = K.sink; err = E.sink })
+        (map string_bytes words.now.items) result
+        (record { folder = folder.old; out = out.old; err = err.old })
+        (record { folder = folder.new; out = out.new; err = err.new }) }
 {
     let Ok(mut machines) = Machines::open(alloc) else {
+        report_end(err, Err(Stop::NoMemory));
         return Status::NoMemory;
     };
     run(alloc, words, folder, out, err, &mut machines)
