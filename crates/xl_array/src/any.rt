@@ -417,7 +417,7 @@ impl AnyArray {
     }
 
     /// Looks for the page in the orders above 4 KiB that the array takes.
-    #[inline(always)]
+    #[inline(never)]
     fn look_above(&mut self, common: bool, space: u16, page: u64) -> Option<Hit>
         requires space { space < 64 }
         requires page { page < 2 ^ 52 }

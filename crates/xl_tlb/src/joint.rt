@@ -14,7 +14,7 @@ ghost use Rattle.xl_tlb.specs.Tlbs.{spec_of};
 
 use crate::levels::{Answered, Levels};
 use crate::newest::MruPages;
-use crate::pair::{Seen, fill_pair, first_and_rest, look_pair};
+use crate::pair::{Seen, Step, fill_pair, first_and_rest};
 use crate::shape::{Known, Shape};
 use xl_array::{AnyArray, Lookup};
 use xl_model::Kind;
@@ -35,17 +35,17 @@ pub(crate) fn are_joint(arrays: &[AnyArray]) -> bool
     all && small && first.is_common() && second.is_common() && first.has_eights()
 }
 
-/// Like `look_pair`, with both arrays.
+/// Takes a step in both arrays.
 #[inline(always)]
-fn look_both(arrays: &mut [AnyArray], above: bool, lookup: Lookup) -> Seen
+fn look_both<P: Step>(arrays: &mut [AnyArray], lookup: Lookup) -> Seen
     requires lookup { IsLookup order_of.K4 lookup }
     requires joint { AreJoint (map spec_of arrays.old) }
-    requires lacks { above ≡ true → FirstLacks lookup.space lookup.page (alone_at 0 arrays.old) }
+    requires lacks { P.lacks ≡ true → FirstLacks lookup.space lookup.page (alone_at 0 arrays.old) }
     ensures { AtBoth (IsPairLook lookup.space lookup.page result) arrays.old arrays.new }
 {
     let (first, rest) = first_and_rest(arrays);
     let (second, _none) = first_and_rest(rest);
-    look_pair(first, second, above, lookup)
+    P::look_pair(first, second, lookup)
 }
 
 /// Like `fill_pair`, with both arrays.
@@ -61,19 +61,18 @@ fn fill_both(arrays: &mut [AnyArray], lookup: Lookup, word: u64)
 }
 
 impl Levels {
-    /// Looks in both arrays for the leaf of 4 KiB that is sought, and gives its word: it is the
-    /// newest of its set of the first array then. Unknown where a larger leaf may answer; then
-    /// nothing changes.
+    /// Takes a step in both arrays, and counts what it finds. A leaf of 4 KiB is the newest of its
+    /// set of the first array then.
     #[inline(always)]
-    fn look_joint(&mut self, above: bool, lookup: Lookup) -> Answered
+    fn look_joint<P: Step>(&mut self, lookup: Lookup) -> Answered
         requires lookup { IsLookup order_of.K4 lookup }
         requires joint { AreJoint (map spec_of self.old.arrays) }
-        requires lacks { above ≡ true
+        requires lacks { P.lacks ≡ true
             → FirstLacks lookup.space lookup.page (alone_at 0 self.old.arrays) }
         ensures { (k : KindOf) →
             IsKnownAnswer all_first k lookup.space lookup.page result self.old self.new }
     {
-        let seen = look_both(&mut self.arrays, above, lookup);
+        let seen = look_both::<P>(&mut self.arrays, lookup);
         self.count(0, 1, seen)
     }
 
@@ -96,8 +95,8 @@ impl Shape for Joint {
     ghost fits = { λ j pages arrays. FitsJoint pages arrays };
 
     #[inline(always)]
-    fn look_in(&self, known: &mut Known, _kind: Kind, above: bool, lookup: Lookup) -> Answered {
-        known.levels.look_joint(above, lookup)
+    fn look_in<P: Step>(&self, known: &mut Known, _kind: Kind, lookup: Lookup) -> Answered {
+        known.levels.look_joint::<P>(lookup)
     }
 
     #[inline(always)]

@@ -8,14 +8,13 @@ ghost use Rattle.xl_model.specs.declared.address.Kind.{Kind as KindOf};
 ghost use Rattle.xl_model.specs.declared.address.Order.TheVariants as order_of;
 ghost use Rattle.xl_model.specs.Tlb.{takes_order};
 ghost use Rattle.xl_tlb.specs.Fronts.{FirstLacks, HasEights};
-ghost use Rattle.xl_array.specs.Touches.{LacksSmall};
 ghost use Rattle.xl_tlb.specs.Shapes.{AtOne, FitsOne, IsAloneFill, IsAloneLook, IsKnownAnswer, IsKnownFill, IsOne, all_first, alone_at};
 ghost use Rattle.xl_array.specs.Lookup.{IsLookup};
 ghost use Rattle.xl_tlb.specs.Tlbs.{spec_of};
 
 use crate::levels::{Answered, Levels};
 use crate::newest::MruPages;
-use crate::pair::first_and_rest;
+use crate::pair::{Step, first_and_rest};
 use crate::shape::{Known, Shape};
 use xl_array::{AnyArray, Lookup};
 use xl_model::Kind;
@@ -47,41 +46,16 @@ pub(crate) fn has_eights(arrays: &[AnyArray]) -> bool
     first.has_eights()
 }
 
-/// Looks for the leaf of 4 KiB that is sought in an array; with `above`, where it lacks that, for a
-/// larger one of the page.
+/// Takes a step in the one array.
 #[inline(always)]
-fn look_first(first: &mut AnyArray, above: bool, lookup: Lookup) -> Answered
-    requires lookup { IsLookup order_of.K4 lookup }
-    requires takes { takes_order first.old.spec order_of.K4 ≡ true }
-    requires lacks { above ≡ true → LacksSmall lookup.space lookup.page first.old }
-    ensures { IsAloneLook lookup.space lookup.page result first.old first.new }
-{
-    if above {
-        return match first.touch_large(false, lookup.space, lookup.page) {
-            Some(word) => Answered::Large { word },
-            None => Answered::Nowhere,
-        };
-    }
-    let set = first.set_of(lookup);
-    if let Some(word) = first.touch_small(set, lookup) {
-        return Answered::Word { word };
-    }
-    if first.has_large() {
-        return Answered::Unknown;
-    }
-    Answered::Nowhere
-}
-
-/// Like `look_first`, with the one array.
-#[inline(always)]
-fn look_alone(arrays: &mut [AnyArray], above: bool, lookup: Lookup) -> Answered
+fn look_alone<P: Step>(arrays: &mut [AnyArray], lookup: Lookup) -> Answered
     requires lookup { IsLookup order_of.K4 lookup }
     requires one { IsOne (map spec_of arrays.old) }
-    requires lacks { above ≡ true → FirstLacks lookup.space lookup.page (alone_at 0 arrays.old) }
+    requires lacks { P.lacks ≡ true → FirstLacks lookup.space lookup.page (alone_at 0 arrays.old) }
     ensures { AtOne (IsAloneLook lookup.space lookup.page result) arrays.old arrays.new }
 {
     let (first, _none) = first_and_rest(arrays);
-    look_first(first, above, lookup)
+    P::look_alone(first, lookup)
 }
 
 /// Fills the array with the leaf of 4 KiB that is sought.
@@ -97,18 +71,18 @@ fn fill_alone(arrays: &mut [AnyArray], lookup: Lookup, word: u64)
 }
 
 impl Levels {
-    /// Looks in the array for the leaf of 4 KiB that is sought, and gives its word: it is the
-    /// newest of its set then.
+    /// Takes a step in the array, and counts what it finds. A leaf of 4 KiB is the newest of its set
+    /// then.
     #[inline(always)]
-    fn look_one(&mut self, above: bool, lookup: Lookup) -> Answered
+    fn look_one<P: Step>(&mut self, lookup: Lookup) -> Answered
         requires lookup { IsLookup order_of.K4 lookup }
         requires one { IsOne (map spec_of self.old.arrays) }
-        requires lacks { above ≡ true
+        requires lacks { P.lacks ≡ true
             → FirstLacks lookup.space lookup.page (alone_at 0 self.old.arrays) }
         ensures { (k : KindOf) →
             IsKnownAnswer all_first k lookup.space lookup.page result self.old self.new }
     {
-        match look_alone(&mut self.arrays, above, lookup) {
+        match look_alone::<P>(&mut self.arrays, lookup) {
             Answered::Word { word } => {
                 self.hits[0] = self.hits[0].wrapping_add(1);
                 Answered::Word { word }
@@ -144,8 +118,8 @@ impl Shape for One {
     ghost fits = { λ o pages arrays. FitsOne o.eights pages arrays };
 
     #[inline(always)]
-    fn look_in(&self, known: &mut Known, _kind: Kind, above: bool, lookup: Lookup) -> Answered {
-        known.levels.look_one(above, lookup)
+    fn look_in<P: Step>(&self, known: &mut Known, _kind: Kind, lookup: Lookup) -> Answered {
+        known.levels.look_one::<P>(lookup)
     }
 
     #[inline(always)]

@@ -1,15 +1,17 @@
-//! A look and a fill of two common arrays, a first one and a second one of a higher level.
+//! A look and a fill of two common arrays, a first one and a second one of a higher level, and the
+//! two steps of a look.
 
-ghost use Rattle.std.specs.Prelude.{◌≡◌, ◌<◌, length, true, None};
+ghost use Rattle.std.specs.Prelude.{◌≡◌, ◌<◌, length, Bool, true, false, None};
 ghost use Rattle.std.specs.Borrow.{sem, Array, LendsBoth};
 ghost use Rattle.std.specs.Prelude.{◌∷◌};
 ghost use Rattle.std.specs.List.{IsFirstAndRest};
 ghost use Rattle.xl_model.specs.declared.address.Order.TheVariants as order_of;
-ghost use Rattle.xl_model.specs.Tlb.{array_hit};
+ghost use Rattle.xl_model.specs.Tlb.{array_hit, takes_order};
 ghost use Rattle.xl_array.specs.Touches.{LacksSmall};
 ghost use Rattle.xl_array.specs.Lookup.{IsAt, IsLookup};
-ghost use Rattle.xl_tlb.specs.Shapes.{IsOfPair, IsPairLook, IsPairFill};
+ghost use Rattle.xl_tlb.specs.Shapes.{IsAloneLook, IsOfPair, IsPairLook, IsPairFill};
 
+use crate::levels::Answered;
 use xl_array::{AnyArray, Lookup};
 use xl_model::Order;
 
@@ -59,50 +61,80 @@ fn look_second(first: &mut AnyArray, set: usize, second: &mut AnyArray, lookup: 
     Seen::Second { word }
 }
 
-/// Looks for a larger leaf of the page in the first array, which lacks that of 4 KiB, and then in the
-/// second one. Out of line, so that `look_pair` stays small enough to be in line.
-#[inline(never)]
-fn look_pair_above(first: &mut AnyArray, second: &mut AnyArray, lookup: Lookup) -> Seen
-    requires lookup { IsLookup order_of.K4 lookup }
-    requires first { IsOfPair first.old.spec }
-    requires second { IsOfPair second.old.spec }
-    requires lacks { LacksSmall lookup.space lookup.page first.old }
-    ensures { IsPairLook lookup.space lookup.page result first.old second.old first.new second.new }
-{
-    let set = first.common_set_of(lookup);
-    if first.has_large() {
-        if let Some(word) = first.touch_large(true, lookup.space, lookup.page) {
-            return Seen::Large { word };
-        }
-    }
-    look_second(first, set, second, lookup)
+/// One of the two steps of a look. Each is a type, so that what is compiled in line for one has no
+/// code of the other: a function that grows very large is not in line.
+pub(crate) trait Step {
+    /// Whether the first array is known to lack the leaf of 4 KiB that is sought.
+    ghost lacks: { Bool };
+
+    /// Takes the step in two arrays. Unknown where another step may answer; then nothing changes.
+    fn look_pair(first: &mut AnyArray, second: &mut AnyArray, lookup: Lookup) -> Seen
+        requires lookup { IsLookup order_of.K4 lookup }
+        requires first { IsOfPair first.old.spec }
+        requires second { IsOfPair second.old.spec }
+        requires lacks { lacks ≡ true → LacksSmall lookup.space lookup.page first.old }
+        ensures { IsPairLook lookup.space lookup.page result first.old second.old first.new
+            second.new };
+
+    /// Takes the step in one array.
+    fn look_alone(first: &mut AnyArray, lookup: Lookup) -> Answered
+        requires lookup { IsLookup order_of.K4 lookup }
+        requires takes { takes_order first.old.spec order_of.K4 ≡ true }
+        requires lacks { lacks ≡ true → LacksSmall lookup.space lookup.page first.old }
+        ensures { IsAloneLook lookup.space lookup.page result first.old first.new };
 }
 
-/// Looks for the leaf of 4 KiB that is sought in the first array: unknown where it isn't there. With
-/// `above` it isn't there: then the array is asked for larger leaves, and the second array for that
-/// of 4 KiB, with which the first is filled; unknown where a larger leaf may answer. Where it is
-/// unknown, nothing changes.
-#[inline(always)]
-pub(crate) fn look_pair(
-    first: &mut AnyArray,
-    second: &mut AnyArray,
-    above: bool,
-    lookup: Lookup,
-) -> Seen
-    requires lookup { IsLookup order_of.K4 lookup }
-    requires first { IsOfPair first.old.spec }
-    requires second { IsOfPair second.old.spec }
-    requires lacks { above ≡ true → LacksSmall lookup.space lookup.page first.old }
-    ensures { IsPairLook lookup.space lookup.page result first.old second.old first.new second.new }
-{
-    if above {
-        return look_pair_above(first, second, lookup);
+/// Looks for the leaf of 4 KiB that is sought in the first array.
+pub(crate) struct FirstStep;
+
+/// Looks for a larger leaf of the page in the first array, which lacks that of 4 KiB, and then for
+/// that of 4 KiB in the second one, with which the first is filled.
+pub(crate) struct NextStep;
+
+impl Step for FirstStep {
+    ghost lacks = { false };
+
+    #[inline(always)]
+    fn look_pair(first: &mut AnyArray, _second: &mut AnyArray, lookup: Lookup) -> Seen {
+        let set = first.common_set_of(lookup);
+        match first.touch_common(set, lookup, Order::K4) {
+            Some(word) => Seen::First { word },
+            None => Seen::Unknown,
+        }
     }
-    let set = first.common_set_of(lookup);
-    if let Some(word) = first.touch_common(set, lookup, Order::K4) {
-        return Seen::First { word };
+
+    #[inline(always)]
+    fn look_alone(first: &mut AnyArray, lookup: Lookup) -> Answered {
+        let set = first.set_of(lookup);
+        match first.touch_small(set, lookup) {
+            Some(word) => Answered::Word { word },
+            None if first.has_large() => Answered::Unknown,
+            None => Answered::Nowhere,
+        }
     }
-    Seen::Unknown
+}
+
+impl Step for NextStep {
+    ghost lacks = { true };
+
+    #[inline(always)]
+    fn look_pair(first: &mut AnyArray, second: &mut AnyArray, lookup: Lookup) -> Seen {
+        let set = first.common_set_of(lookup);
+        if first.has_large() {
+            if let Some(word) = first.touch_large(true, lookup.space, lookup.page) {
+                return Seen::Large { word };
+            }
+        }
+        look_second(first, set, second, lookup)
+    }
+
+    #[inline(always)]
+    fn look_alone(first: &mut AnyArray, lookup: Lookup) -> Answered {
+        match first.touch_large(false, lookup.space, lookup.page) {
+            Some(word) => Answered::Large { word },
+            None => Answered::Nowhere,
+        }
+    }
 }
 
 /// Fills both arrays with the leaf of 4 KiB that is sought.

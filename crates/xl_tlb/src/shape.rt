@@ -15,6 +15,7 @@ ghost use Rattle.xl_tlb.specs.Tlbs.{spec_of, tlb_filled};
 
 use crate::levels::{Answered, Levels};
 use crate::newest::MruPages;
+use crate::pair::{FirstStep, NextStep, Step};
 use xl_array::Lookup;
 use xl_model::{Kind, Order};
 
@@ -35,13 +36,12 @@ pub(crate) trait Shape: Drop {
     /// The arrays are of this shape, and what is known of them is so.
     ghost fits: { Self → PagesOf → List TlbArray → Type 0 };
 
-    /// Looks in line for the page whose leaf of 4 KiB is sought. Unknown where a larger leaf may
-    /// answer; then nothing changes. With `above` the first array lacks that leaf, and is asked for
-    /// larger ones.
-    fn look_in(&self, known: &mut Known, kind: Kind, above: bool, lookup: Lookup) -> Answered
+    /// Takes a step of a look for the page whose leaf of 4 KiB is sought. Unknown where another step
+    /// may answer; then nothing changes.
+    fn look_in<P: Step>(&self, known: &mut Known, kind: Kind, lookup: Lookup) -> Answered
         requires lookup { IsLookup order_of.K4 lookup }
         requires fits { fits self.now known.old.pages known.old.levels.arrays }
-        requires lacks { above ≡ true → FirstLacks lookup.space lookup.page
+        requires lacks { P.lacks ≡ true → FirstLacks lookup.space lookup.page
             (alone_at (first kind) known.old.levels.arrays) }
         ensures answer { IsKnownAnswer first kind lookup.space lookup.page result
             known.old.levels known.new.levels }
@@ -69,24 +69,23 @@ pub(crate) trait Shape: Drop {
             → map spec_of new ≡ map spec_of old → fits self.new pages.new new };
 }
 
-/// Like `look_in` of the shape, and keeps what it finds, where that is a leaf of 4 KiB.
+/// Takes a step of a look, and keeps what it finds, where that is a leaf of 4 KiB.
 #[inline(always)]
-fn look_once<S: Shape>(
+fn look_once<S: Shape, P: Step>(
     shape: &mut S,
     known: &mut Known,
     kind: Kind,
-    above: bool,
     lookup: Lookup,
 ) -> Answered
     requires lookup { IsLookup order_of.K4 lookup }
     requires fits { S.fits shape.old known.old.pages known.old.levels.arrays }
-    requires lacks { above ≡ true → FirstLacks lookup.space lookup.page
+    requires lacks { P.lacks ≡ true → FirstLacks lookup.space lookup.page
         (alone_at (S.first kind) known.old.levels.arrays) }
     ensures answer { IsAnswered S.first kind lookup.space lookup.page result
         known.old.levels known.new.levels }
     ensures fits { S.fits shape.new known.new.pages known.new.levels.arrays }
 {
-    match shape.look_in(known, kind, above, lookup) {
+    match shape.look_in::<P>(known, kind, lookup) {
         Answered::Word { word } => {
             shape.keep(&mut known.pages, kind, lookup, word);
             Answered::Word { word }
@@ -117,7 +116,7 @@ pub(crate) fn search<S: Shape>(
     ensures fits { S.fits shape.new known.new.pages known.new.levels.arrays }
 {
     let lookup = Lookup { space, page, tag };
-    match look_once(shape, known, kind, false, lookup) {
+    match look_once::<S, FirstStep>(shape, known, kind, lookup) {
         Answered::Word { word } => Some(word),
         Answered::Large { word } => Some(word),
         Answered::Nowhere => None,
@@ -142,7 +141,7 @@ fn search_above<S: Shape>(
     ensures fits { S.fits shape.new known.new.pages known.new.levels.arrays }
 {
     let lookup = Lookup { space, page, tag };
-    match look_once(shape, known, kind, true, lookup) {
+    match look_once::<S, NextStep>(shape, known, kind, lookup) {
         Answered::Word { word } => Some(word),
         Answered::Large { word } => Some(word),
         Answered::Nowhere => None,

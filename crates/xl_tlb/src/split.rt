@@ -17,7 +17,7 @@ ghost use Rattle.xl_tlb.specs.Tlbs.{spec_of};
 
 use crate::levels::{Answered, Levels};
 use crate::newest::MruPages;
-use crate::pair::{Seen, fill_pair, first_and_rest, look_pair};
+use crate::pair::{Seen, Step, fill_pair, first_and_rest};
 use crate::shape::{Known, Shape, search};
 use xl_array::{AnyArray, Lookup};
 use xl_model::Kind;
@@ -54,18 +54,18 @@ fn first_of(kind: Kind) -> usize
     }
 }
 
-/// Like `look_pair`, with the two arrays that serve an access of this kind.
+/// Takes a step in the two arrays that serve an access of this kind.
 #[inline(always)]
-fn look_split(arrays: &mut [AnyArray], kind: Kind, above: bool, lookup: Lookup) -> Seen
+fn look_split<P: Step>(arrays: &mut [AnyArray], kind: Kind, lookup: Lookup) -> Seen
     requires lookup { IsLookup order_of.K4 lookup }
     requires split { AreSplit (map spec_of arrays.old) }
-    requires lacks { above ≡ true → FirstLacks lookup.space lookup.page
+    requires lacks { P.lacks ≡ true → FirstLacks lookup.space lookup.page
         (alone_at (first_of_kind kind) arrays.old) }
     ensures { AtKind (IsPairLook lookup.space lookup.page result) kind arrays.old arrays.new }
 {
     let (firsts, rest) = arrays.split_at_mut(2);
     let (second, _none) = first_and_rest(rest);
-    look_pair(&mut firsts[first_of(kind)], second, above, lookup)
+    P::look_pair(&mut firsts[first_of(kind)], second, lookup)
 }
 
 /// Like `fill_pair`, with the two arrays that serve an access of this kind.
@@ -81,19 +81,18 @@ fn fill_split(arrays: &mut [AnyArray], kind: Kind, lookup: Lookup, word: u64)
 }
 
 impl Levels {
-    /// Looks for the leaf of 4 KiB that is sought in the arrays that serve accesses of this kind,
-    /// and gives its word: it is the newest of its set of the first array then. Unknown where a
-    /// larger leaf may answer; then nothing changes.
+    /// Takes a step in the arrays that serve accesses of this kind, and counts what it finds. A leaf
+    /// of 4 KiB is the newest of its set of the first array then.
     #[inline(always)]
-    fn look_split(&mut self, kind: Kind, above: bool, lookup: Lookup) -> Answered
+    fn look_split<P: Step>(&mut self, kind: Kind, lookup: Lookup) -> Answered
         requires lookup { IsLookup order_of.K4 lookup }
         requires split { AreSplit (map spec_of self.old.arrays) }
-        requires lacks { above ≡ true → FirstLacks lookup.space lookup.page
+        requires lacks { P.lacks ≡ true → FirstLacks lookup.space lookup.page
             (alone_at (first_of_kind kind) self.old.arrays) }
         ensures { IsKnownAnswer first_of_kind kind lookup.space lookup.page result
             self.old self.new }
     {
-        let seen = look_split(&mut self.arrays, kind, above, lookup);
+        let seen = look_split::<P>(&mut self.arrays, kind, lookup);
         self.count(first_of(kind), 2, seen)
     }
 
@@ -162,8 +161,8 @@ impl Shape for Split {
     ghost fits = { λ s pages arrays. FitsSplit s.of_fetches s.of_data pages arrays };
 
     #[inline(always)]
-    fn look_in(&self, known: &mut Known, kind: Kind, above: bool, lookup: Lookup) -> Answered {
-        known.levels.look_split(kind, above, lookup)
+    fn look_in<P: Step>(&self, known: &mut Known, kind: Kind, lookup: Lookup) -> Answered {
+        known.levels.look_split::<P>(kind, lookup)
     }
 
     #[inline(always)]

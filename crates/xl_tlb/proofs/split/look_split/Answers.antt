@@ -3,7 +3,7 @@ use Rattle.xl_tlb.proofs.SplitLemmas.{at_first, first_lacks, split_pair}
 use Rattle.xl_tlb.proofs.split.look_split.Goals as goal
 
 pub returns : goal.returns
-returns c =
+returns g c =
     let firsts = c.split_at_mut-firsts.result.0.now in
     let s = c.first_and_rest-second.result.0.now in
     let rest = c.first_and_rest-second.result.1.now in
@@ -13,7 +13,7 @@ returns c =
     (subst (λ (z : TlbArray). IsPairLook c.args.lookup.space c.args.lookup.page c.look_pair.result z s c.look_pair.new.first c.look_pair.new.second) (sym c.index-firsts-first_of.is) c.look_pair.ensures))
 
 pub look_pair-requires-clause-first : goal.look_pair-requires-clause-first
-look_pair-requires-clause-first c =
+look_pair-requires-clause-first g c =
     let firsts = c.split_at_mut-firsts.result.0.now in
     let s = c.first_and_rest-second.result.0.now in
     let rest = c.first_and_rest-second.result.1.now in
@@ -22,7 +22,7 @@ look_pair-requires-clause-first c =
     subst (λ (z : TlbArray). IsOfPair z.spec) c.index-firsts-first_of.is pair.0
 
 pub look_pair-requires-clause-second : goal.look_pair-requires-clause-second
-look_pair-requires-clause-second c =
+look_pair-requires-clause-second g c =
     let firsts = c.split_at_mut-firsts.result.0.now in
     let s = c.first_and_rest-second.result.0.now in
     let rest = c.first_and_rest-second.result.1.now in
@@ -31,7 +31,7 @@ look_pair-requires-clause-second c =
     pair.1
 
 pub look_pair-requires-clause-lacks : goal.look_pair-requires-clause-lacks
-look_pair-requires-clause-lacks c = λ above.
+look_pair-requires-clause-lacks g c = λ above.
     let firsts = c.split_at_mut-firsts.result.0.now in
     let s = c.first_and_rest-second.result.0.now in
     let rest = c.first_and_rest-second.result.1.now in

@@ -5,7 +5,7 @@ use Rattle.xl_tlb.specs.declared.levels.Answered.TheVariants as answered
 use Rattle.xl_tlb.proofs.levels.Levels.look_one.Goals as goal
 
 pub invariant_of-self : goal.invariant_of-self
-invariant_of-self c =
+invariant_of-self g c =
     let t = c.self.inside in
     let s = c.args.lookup in
     let new = c.look_alone.new.arrays in
@@ -15,7 +15,7 @@ invariant_of-self c =
     rw back (one_kept_state (answered.Word c.in-Word.word) s.space s.page t.arrays.items new t.hits _ t.misses t.misses t.fills look c.self.invariant)
 
 pub invariant_of-self-in-Nowhere : goal.invariant_of-self-in-Nowhere
-invariant_of-self-in-Nowhere c =
+invariant_of-self-in-Nowhere g c =
     let t = c.self.inside in
     let s = c.args.lookup in
     let new = c.look_alone.new.arrays in
@@ -25,7 +25,7 @@ invariant_of-self-in-Nowhere c =
     rw back (one_kept_state answered.Nowhere s.space s.page t.arrays.items new t.hits t.hits t.misses _ t.fills look c.self.invariant)
 
 pub returns-in-Word : goal.returns-in-Word
-returns-in-Word c k =
+returns-in-Word g c k =
     let t = c.self.inside in
     let s = c.args.lookup in
     let new = c.look_alone.new.arrays in
@@ -36,7 +36,7 @@ returns-in-Word c k =
     rw (back, ← c.self.view_is) (one_answer k s.space s.page t.arrays.items new t.hits t.misses t.fills (omega arith) (omega arith) one c.in-Word.word c.self.ranges.1.1.1.0.1 look)
 
 pub returns-in-Nowhere : goal.returns-in-Nowhere
-returns-in-Nowhere c k =
+returns-in-Nowhere g c k =
     let t = c.self.inside in
     let s = c.args.lookup in
     let new = c.look_alone.new.arrays in
@@ -47,7 +47,7 @@ returns-in-Nowhere c k =
     rw (back, ← c.self.view_is) (one_miss k s.space s.page t.arrays.items new t.hits t.misses t.fills (omega arith) (omega arith) one look)
 
 pub returns-in-Large : goal.returns-in-Large
-returns-in-Large c k =
+returns-in-Large g c k =
     let t = c.self.inside in
     let s = c.args.lookup in
     let new = c.look_alone.new.arrays in
@@ -58,7 +58,7 @@ returns-in-Large c k =
     rw (back, ← c.self.view_is) (one_above k s.space s.page t.arrays.items new t.hits t.misses t.fills (omega arith) (omega arith) one c.in-Large.word c.self.ranges.1.1.1.0.1 look)
 
 pub returns-in-Unknown : goal.returns-in-Unknown
-returns-in-Unknown c k =
+returns-in-Unknown g c k =
     let t = c.self.inside in
     let s = c.args.lookup in
     let new = c.look_alone.new.arrays in

@@ -4,7 +4,7 @@ use Rattle.xl_tlb.proofs.TlbLemmas.{written}
 use Rattle.xl_tlb.proofs.levels.Levels.look_split.Goals as goal
 
 pub invariant_of-self : goal.invariant_of-self
-invariant_of-self c =
+invariant_of-self g c =
     let t = c.self.inside in
     let s = c.args.lookup in
     let new = c.look_split-seen.new.arrays in
@@ -14,7 +14,7 @@ invariant_of-self c =
     rw back (split_kept c.look_split-seen.result c.args.kind s.space s.page t.arrays.items new t.hits t.misses t.fills look c.self.invariant)
 
 pub returns : goal.returns
-returns c =
+returns g c =
     let t = c.self.inside in
     let s = c.args.lookup in
     let new = c.look_split-seen.new.arrays in
