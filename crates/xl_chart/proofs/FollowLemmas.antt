@@ -1,40 +1,27 @@
 -- A command that is done purges the leaf that it names.
-use Rattle.std.proofs.Common.{◌≡◌, ℕ, ◌==◌, ◌&&◌, Bool, true, false, List, [], ◌∷◌, find, Option, None, Some, Result, Ok, Err, ◌⊎◌, inl, inr, refl, sym, ◌∙◌, ap, arith}
+use Rattle.xl_chart.proofs.Common.{◌&&◌, ◌==◌, ◌∙◌, ◌∷◌, ◌≡◌, ◌⊎◌, [], ap, arith, Bool, change_of, changed_outcome, curve_accessed, curve_after, curve_followed, curve_looked, curve_looked_where, curve_purged, curve_without, Err, Event, false, find, followed, HitCurve, inl, inr, insert_at, is_canonical, Kind, Leaf, List, named_rule, None, Ok, old_of, Option, or_else, Outcome, outcome_after_rule, outcome_by, outcome_of, overlap_rule, page_of, page_reach, place_rule, Purge, reach_of, refl, refusal_of, reply_to, Result, Row, RowState, rule, same_order, Served, served_outcome, Some, sym, there_rule, true, unless, unless_refused, ℕ}
 use Rattle.std.proofs.lemmas.Bool.Decides.{nat_tests}
 use Rattle.std.specs.Cmp.{first_so, second_so}
-use Rattle.xl_model.specs.declared.address.Kind.{Kind}
+use Rattle.xl_curve.specs.Tests.{purges}
+use Rattle.xl_list_lemmas.proofs.MemberLemmas.{find-In, find-None, find-passes}
+use Rattle.xl_list_lemmas.specs.Members.{In}
+use Rattle.xl_model.specs.Changes.{Change}
+use Rattle.xl_model.specs.Frames.{lowest}
+use Rattle.xl_model.specs.Mapping.{covers, is_leaf, leaf_at_page, leaf_named}
+use Rattle.xl_model.specs.Structures.{table_answer}
+use Rattle.xl_model.specs.Tlb.{is_purged, reaches_leaf}
 use Rattle.xl_model.specs.declared.address.Order.{Order}
-use Rattle.xl_model.specs.declared.event.Event.{Event}
-use Rattle.xl_model.specs.declared.event.Event.TheVariants as event
-use Rattle.xl_model.specs.declared.event.Outcome.{Outcome}
-use Rattle.xl_model.specs.declared.event.Outcome.TheVariants as outcome
 use Rattle.xl_model.specs.declared.event.Refusal.{Refusal}
-use Rattle.xl_model.specs.declared.event.Refusal.TheVariants as refused
 use Rattle.xl_model.specs.declared.event.Scope.{Scope}
-use Rattle.xl_model.specs.declared.event.Scope.TheVariants as scope
-use Rattle.xl_model.specs.declared.leaf.Leaf.{Leaf}
 use Rattle.xl_model.specs.declared.work.Refused.{Refused}
 use Rattle.xl_model.specs.declared.work.Work.{Work}
-use Rattle.xl_model.specs.declared.row.Purge.{Purge}
-use Rattle.xl_model.specs.declared.row.Purge.TheVariants as purge
-use Rattle.xl_model.specs.Addresses.{is_canonical, page_of, same_order}
-use Rattle.xl_model.specs.Changes.{Change}
-use Rattle.xl_curve_model.specs.Curves.{HitCurve, curve_accessed, curve_without}
-use Rattle.xl_curve_model.specs.CurveRun.{curve_looked, curve_looked_where, curve_purged, old_of, curve_followed, unless_refused, curve_after}
-use Rattle.xl_model.specs.Mapping.{covers, is_leaf, leaf_at_page, leaf_named}
-use Rattle.xl_model.specs.RowRun.{RowState, outcome_of, outcome_after_rule, served_outcome, outcome_by, changed_outcome, reply_to, refusal_of, reach_of}
-use Rattle.xl_model.specs.Scenes.{Served}
-use Rattle.xl_model.specs.Structures.{table_answer}
-use Rattle.xl_model.specs.Rows.{Row}
-use Rattle.xl_model.specs.Rules.{or_else, unless, place_rule, named_rule, there_rule, overlap_rule, insert_at, rule, change_of}
-use Rattle.xl_model.specs.Frames.{lowest}
-use Rattle.xl_model.specs.Tlb.{is_purged, reaches_leaf}
-use Rattle.xl_list_lemmas.specs.Members.{In}
-use Rattle.xl_list_lemmas.proofs.MemberLemmas.{find-In, find-None, find-passes}
 use Rattle.xl_model_lemmas.proofs.PlaceLemmas.{orders-same}
-use Rattle.xl_curve.specs.Tests.{purges}
-use Rattle.xl_chart.specs.Follows.{page_reach, followed}
-use Rattle.xl_model_lemmas.proofs.RuleLemmas.{or-second, or-first}
+use Rattle.xl_model_lemmas.proofs.RuleLemmas.{or-first, or-second}
+use Rattle.xl_model.specs.declared.event.Event.TheVariants as event
+use Rattle.xl_model.specs.declared.event.Outcome.TheVariants as outcome
+use Rattle.xl_model.specs.declared.event.Refusal.TheVariants as refused
+use Rattle.xl_model.specs.declared.event.Scope.TheVariants as scope
+use Rattle.xl_model.specs.declared.row.Purge.TheVariants as purge
 
 -- a purge of a leaf is one by its name
 purged-named : (p : Purge) (old : Leaf) (space first : ℕ) (o : Order) → is_leaf space first o old ≡ true → is_purged p old ≡ purges p space first o

@@ -1,16 +1,6 @@
 -- Events that are served one after another.
-use Rattle.std.proofs.Common.{◌∙◌, ◌≡◌, ap, List, None, Option, refl, Some, subst, ℕ}
-use Rattle.xl_curve_model.specs.CurveRun.{Charted, charted_again, charted_demand, charted_event, charted_item, curve_after}
-use Rattle.xl_curve_model.specs.Curves.{HitCurve}
+use Rattle.xl_chart.proofs.Common.{◌∙◌, ◌≡◌, again_where, ap, area_for, area_wanted, Charted, charted_again, charted_demand, charted_event, charted_item, curve_after, demanded, Event, HitCurve, Kind, List, map_of, None, Option, Outcome, outcome_of, referenced, refl, reply_to, Row, RowState, rule, Served, served_after, Some, state_after, subst, wanted, ℕ}
 use Rattle.xl_machine.specs.Served.{after_of}
-use Rattle.xl_model.specs.Items.{again_where, area_for, area_wanted, demanded, map_of, referenced, state_after, wanted}
-use Rattle.xl_model.specs.RowRun.{outcome_of, reply_to, RowState}
-use Rattle.xl_model.specs.Rows.{Row}
-use Rattle.xl_model.specs.Rules.{rule}
-use Rattle.xl_model.specs.Scenes.{Served, served_after}
-use Rattle.xl_model.specs.declared.address.Kind.{Kind}
-use Rattle.xl_model.specs.declared.event.Event.{Event}
-use Rattle.xl_model.specs.declared.event.Outcome.{Outcome}
 use Rattle.xl_model.specs.declared.script.Area.{Area}
 use Rattle.xl_model.specs.declared.script.Item.{Item}
 use Rattle.xl_model.specs.declared.script.Item.TheVariants.{Command, Declared, Referenced}

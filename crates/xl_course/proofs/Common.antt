@@ -8,7 +8,7 @@ pub use Rattle.xl_lackey.specs.Accesses.{accesses, accesses_at, borders, each, p
 pub use Rattle.xl_model.specs.declared.fault.InputFault.{InputFault}
 pub use Rattle.xl_outside.proofs.FolderLemmas.{folder_same, folder_then}
 pub use Rattle.xl_outside.proofs.SinkLemmas.{front_of_more, front_written, proceeds_same, proceeds_then, sink_cut, sink_same, sink_then}
-pub use Rattle.xl_outside.specs.Folders.{Files, Fine, FolderAfter, FolderMeaning}
+pub use Rattle.xl_outside.specs.Folders.{Files, Fine, FolderAfter}
 pub use Rattle.xl_outside.specs.Sinks.{FlushAfter, IsFlushed, IsMore, Outside, Proceeds, SinkAfter, SinkMeaning, with_more, WroteFront}
 pub use Rattle.xl_course.specs.Accounts.{Account, account, end_flushed, EndAfter, Ends, EndsAs, EndsWith, fault_message, FlushesEnd, last_where, message_by, message_of, text_of}
 pub use Rattle.xl_course.specs.Courses.{accesses_items, at_last, before, commands_of, Course, course, course_by, ended, finish, items_of, items_of_all, ran, ran_all}

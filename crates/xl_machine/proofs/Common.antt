@@ -3,6 +3,7 @@ pub use Rattle.std.proofs.Common.{◌%◌, ◌&&◌, ◌*◌, ◌+◌, ◌-◌, 
 pub use Rattle.std.proofs.lemmas.Bool.Decides.{nat_tests}
 pub use Rattle.std.specs.List.{list_all, list_any}
 pub use Rattle.std.specs.Prelude.{IfSome, replicate}
+pub use Rattle.xl_array.specs.Arrays.{InLimits, IsFit}
 pub use Rattle.xl_list_lemmas.proofs.MemberLemmas.{any-In, find-In, find-passes, In-any, same-tests}
 pub use Rattle.xl_list_lemmas.specs.Members.{In}
 pub use Rattle.xl_model.specs.Addresses.{allows, is_aligned, levels_of, pages_of}
@@ -46,7 +47,6 @@ pub use Rattle.xl_model_lemmas.proofs.RuleLemmas.{kept-sound, new-place, or-firs
 pub use Rattle.xl_model_lemmas.specs.Fresh.{ArraysFresh}
 pub use Rattle.xl_model_lemmas.specs.Mappings.{IsLeafOf, IsMapping, IsNewLeaf, IsNewPlace, IsSound}
 pub use Rattle.xl_model_lemmas.specs.Pools.{IsPoolOf}
-pub use Rattle.xl_array.specs.Arrays.{InLimits, IsFit}
 pub use Rattle.xl_tlb.specs.Tlbs.{AreSpecs, IsRising, IsSpec, leaf_replied, looked_arrays, NoneBelow, TlbState}
 unfoldable pub use Rattle.xl_tlb.specs.Tlbs.{tlb_fenced, tlb_filled, tlb_looked, tlb_opening, tlb_purged}
 pub use Rattle.xl_machine.specs.Rules.{rule_of, there_of}

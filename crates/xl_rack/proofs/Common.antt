@@ -6,7 +6,7 @@ pub use Rattle.std.specs.List.{All}
 pub use Rattle.std.specs.Prelude.{IfSome, slice_get, slice_index_or, slice_set}
 pub use Rattle.serde_json.specs.View.{items_of, view}
 pub use Rattle.xl_lackey.specs.declared.skim.Access.{Access}
-pub use Rattle.xl_machine.specs.Served.{accessed_by, after_of, IsFramed}
+pub use Rattle.xl_machine.specs.Served.{accessed_by, after_of, IsFramed, opened}
 pub use Rattle.xl_model.specs.Addresses.{is_canonical, levels_of, page_of}
 unfoldable pub use Rattle.xl_model.specs.Caches.{opening_caches}
 pub use Rattle.xl_model.specs.Items.{area_for, area_wanted, areas_after, demanded, map_of, wanted}

@@ -1,10 +1,8 @@
-use Rattle.std.proofs.Common.{sym, ◌∙◌, ap}
-use Rattle.xl_model.specs.declared.event.Outcome.TheVariants as outcome
-use Rattle.xl_model.specs.Addresses.{page_of}
+use Rattle.xl_chart.proofs.Common.{◌∙◌, ap, Leaf, page_of, sym}
 use Rattle.xl_model.specs.LeafWords.{small_leaf}
-use Rattle.xl_model.specs.declared.leaf.Leaf.{Leaf}
 use Rattle.xl_model.specs.declared.leaf.Reply.{Reply}
 use Rattle.xl_chart.proofs.FollowLemmas.{found_followed, reply_outcome, same_followed}
+use Rattle.xl_model.specs.declared.event.Outcome.TheVariants as outcome
 use Rattle.xl_chart.proofs.beside.access_both.Goals as goal
 
 pub returns-in-Some : goal.returns-in-Some

@@ -1,6 +1,6 @@
+use Rattle.xl_chart.proofs.ItemLemmas.{access_served, event_served}
 use Rattle.xl_model.specs.declared.event.Event.TheVariants as event
 use Rattle.xl_model.specs.declared.event.Outcome.TheVariants as outcome
-use Rattle.xl_chart.proofs.ItemLemmas.{event_served, access_served}
 use Rattle.xl_chart.proofs.item.access_beside.Goals as goal
 
 pub returns : goal.returns

@@ -1,4 +1,4 @@
-use Rattle.xl_model.specs.Items.{map_of}
+use Rattle.xl_chart.proofs.Common.{map_of}
 use Rattle.xl_chart.proofs.ItemLemmas.{demand_served, event_served, not_demanded}
 use Rattle.xl_chart.proofs.item.demand_beside.Goals as goal
 

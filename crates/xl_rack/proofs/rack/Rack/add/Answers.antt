@@ -1,5 +1,4 @@
-use Rattle.xl_rack.proofs.Common.{◌++◌, ◌∙◌, ◌∷◌, [], All-push, ap, arith, IsNamed, List, map, map-append, row_of, Served, served_of}
-use Rattle.xl_machine.specs.Served.{opened}
+use Rattle.xl_rack.proofs.Common.{◌++◌, ◌∙◌, ◌∷◌, [], All-push, ap, arith, IsNamed, List, map, map-append, opened, row_of, Served, served_of}
 use Rattle.xl_rack.proofs.rack.Rack.add.Goals as goal
 
 pub invariant_of-self : goal.invariant_of-self
