@@ -192,8 +192,8 @@ impl<const W: usize> Array<W> {
         self.touch_in(set, Lookup::of(space, page, order), order)
     }
 
-    /// Looks for the page in the orders that the array takes, from 4 KiB up. Moves the leaf found to
-    /// the front of its set, and gives the word of the page. Without `large` there are no leaves
+    /// Looks for the page in the orders that the array takes, from 4 KiB up. Moves the leaf found
+    /// to the front of its set, and gives the word of the page. Without `large` there are no leaves
     /// above 4 KiB, and none is looked for.
     #[inline(always)]
     pub fn look(&mut self, space: u16, page: u64, large: bool) -> Option<u64>

@@ -96,7 +96,8 @@ fn serve_alone(slots: &mut [Slot], part: &Part<'_>)
 /// the last are served alone.
 pub(crate) fn serve_slots_beside(slots: &mut [Slot], curves: &mut [Curve], part: &Part<'_>)
     ensures slots { EachServed (row_after part.now) slots.old slots.new }
-    ensures curves { curves.new ≡ each_curve (curve_after_part part.now) (map served_of slots.old) curves.old }
+    ensures curves { curves.new
+        ≡ each_curve (curve_after_part part.now) (map served_of slots.old) curves.old }
 {
     let Some((curve, curves)) = curves.split_first_mut() else {
         serve_alone(slots, part);

@@ -103,8 +103,8 @@ fn one_if(pages: u64) -> u64
     if pages == 0 { 0 } else { 1 }
 }
 
-/// Whether cutting a leaf out stays within `ranges`, where `before` and `following` pages are left on
-/// its sides.
+/// Whether cutting a leaf out stays within `ranges`, where `before` and `following` pages are left
+/// on its sides.
 fn has_room_without(ranges: u32, held: u32, before: u64, following: u64) -> bool
     ensures { result ≡ nat_le (held + (some_if before + some_if following)) (ranges + 1) }
 {

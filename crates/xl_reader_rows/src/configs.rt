@@ -192,7 +192,7 @@ pub fn width()
     ensures above { broken_in_array (codes "width") 65 ≡ Some (22, 3) }
 {}
 
-/// An array has some order, and at most six arrays stand in a row.
+/// An array has some order, and a row has at most six arrays.
 #[tactic(auto, unfolding(crate::specs::Computing::reading))]
 pub fn arrays()
     ensures no_order { broken_with (array_of_orders 1 [] ∷ []) ≡ Some (22, 3) }

@@ -16,7 +16,7 @@ pub fn letters()
     ensures none { Refuses (codes " X 0,1") 1 }
 {}
 
-/// Blanks are spaces and tabs, and one stands behind the letter.
+/// Blanks are spaces and tabs, and one follows the letter.
 #[tactic(auto, unfolding(crate::specs::Computing::reading))]
 pub fn blanks()
     ensures tabs { Reads (codes "\tL\t\t0,1\t") letter.L 0 1 }

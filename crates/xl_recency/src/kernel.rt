@@ -189,9 +189,9 @@ macro_rules! ways_out {
 }
 
 /// Moves the first of the first `len` items that passes the test to the front, where there are at
-/// most sixteen. Eight or sixteen slots are looked at, unused ones too, four in each function, since
-/// eight ways out of one are dear to prove. Those past the eighth are out of line, so that lists of
-/// few slots stay small enough to be inlined.
+/// most sixteen. Eight or sixteen slots are looked at, unused ones too, four in each function,
+/// since eight ways out of one are dear to prove. Those past the eighth are out of line, so that
+/// lists of few slots stay small enough to be inlined.
 #[inline(always)]
 fn touch_first<const W: usize, T: Copy, P: Fn(&T) -> bool>(
     slots: &mut [T; W],

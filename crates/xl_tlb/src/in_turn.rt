@@ -1,8 +1,8 @@
 //! A look and a fill of the arrays of all levels in turn, whatever they are.
 //!
-//! Taken where arrays have no other shape, and where a larger leaf of a second array may answer. The
-//! first array that serves the access and hits gives its leaf; of its level the others are looked at
-//! for their counts, and on the way back the arrays of lower levels are filled.
+//! Taken where arrays have no other shape, and where a larger leaf of a second array may answer.
+//! The first array that serves the access and hits gives its leaf; of its level the others are
+//! looked at for their counts, and on the way back the arrays of lower levels are filled.
 
 ghost use Rattle.std.specs.Prelude.{ℕ, ◌≡◌, ◌<◌, ◌≤◌, ◌^◌, ◌+◌, suc, true, false, length, map, count_by, slice_set, slice_index_or, IfSome, IfNone};
 ghost use Rattle.xl_model.specs.Base.{plus};

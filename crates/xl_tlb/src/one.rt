@@ -1,7 +1,7 @@
 //! One array that serves all accesses, of any width.
 //!
-//! Taken where it takes leaves of 4 KiB. No other levels are looked for, and an array of four or eight
-//! ways is looked at in line: saves the look in turn.
+//! Taken where it takes leaves of 4 KiB. No other levels are looked for, and an array of four or
+//! eight ways is looked at in line: saves the look in turn.
 
 ghost use Rattle.std.specs.Prelude.{◌≡◌, true, map};
 ghost use Rattle.xl_model.specs.declared.address.Kind.{Kind as KindOf};
@@ -71,8 +71,8 @@ fn fill_alone(arrays: &mut [AnyArray], lookup: Lookup, word: u64)
 }
 
 impl Levels {
-    /// Takes a step in the array, and counts what it finds. A leaf of 4 KiB is the newest of its set
-    /// then.
+    /// Takes a step in the array, and counts what it finds. A leaf of 4 KiB is the newest of its
+    /// set then.
     #[inline(always)]
     fn look_one<P: Step>(&mut self, lookup: Lookup) -> Answered
         requires lookup { IsLookup order_of.K4 lookup }

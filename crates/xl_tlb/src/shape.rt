@@ -36,8 +36,8 @@ pub(crate) trait Shape: Drop {
     /// The arrays are of this shape, and what is known of them is so.
     ghost fits: { Self → PagesOf → List TlbArray → Type 0 };
 
-    /// Takes a step of a look for the page whose leaf of 4 KiB is sought. Unknown where another step
-    /// may answer; then nothing changes.
+    /// Takes a step of a look for the page whose leaf of 4 KiB is sought. Unknown where another
+    /// step may answer; then nothing changes.
     fn look_in<P: Step>(&self, known: &mut Known, kind: Kind, lookup: Lookup) -> Answered
         requires lookup { IsLookup order_of.K4 lookup }
         requires fits { fits self.now known.old.pages known.old.levels.arrays }

@@ -81,8 +81,8 @@ fn fill_split(arrays: &mut [AnyArray], kind: Kind, lookup: Lookup, word: u64)
 }
 
 impl Levels {
-    /// Takes a step in the arrays that serve accesses of this kind, and counts what it finds. A leaf
-    /// of 4 KiB is the newest of its set of the first array then.
+    /// Takes a step in the arrays that serve accesses of this kind, and counts what it finds. A
+    /// leaf of 4 KiB is the newest of its set of the first array then.
     #[inline(always)]
     fn look_split<P: Step>(&mut self, kind: Kind, lookup: Lookup) -> Answered
         requires lookup { IsLookup order_of.K4 lookup }
