@@ -2,6 +2,7 @@
 use Rattle.xl_curve.proofs.Common.{◌%◌, ◌++◌, ◌+◌, ◌-◌, ◌<◌, ◌^◌, ◌∙◌, ◌∷◌, ◌≡◌, ◌≤◌, [], ap, arith, array_filled, Bool, counted, curve_accessed, curve_missed, curve_of, curve_without, distance, drop, false, find, found_same, get_or, get_or-map, get_or-map-range_with_len, held, HitCurve, hits_at, hits_below, hits_of, IfSome, is_some, IsCurve, Leaf, length, length-map, length-set, List, looked_for, map, map-range_with_len_more, map-set, nat_lt, nat_tests, None, opening_curve, opening_point, Option, Order, pages_of, place_without, Point, point_accessed, point_at, point_without, purged, range_with_len, refl, removed, replicate, same_leaf, set, set_of, shifted, Some, spec_of_width, subst, suc, sum, sym, take, take-append-le, take-set-le, take_all, take_more_set, takes_order, touched, true, with_front, with_newest, zero, ℕ}
 use Rattle.std.proofs.lemmas.List.Sums.{sum_by-cons, sum_by_more}
 use Rattle.xl_model.specs.Base.{plus}
+use Rattle.xl_curve.proofs.RankLemmas.{each_in_range}
 use Rattle.xl_curve.proofs.SetLemmas.{front_kept, removed_kept}
 use Rattle.xl_curve.proofs.StackLemmas.{distance_held, filled_held, purged_held, taken_held, touched_held, within}
 use Rattle.xl_model.specs.declared.address.Order.TheVariants as order
@@ -32,15 +33,6 @@ hits_counted counts (Some d) w l = go (nat_lt d w) refl
     go false t =
         let m : w ≤ d = grind (arith, nat_tests) in
         ap (λ (xs : List ℕ). sum xs % 2 ^ 64) (take-set-le w counts d (plus (get_or counts d 0) 1) m)
-
--- ---- all widths
-
-pub each_width : {X Y : Type 0} (h : X → Y) (f : ℕ → X) (g : ℕ → Y) (a n : ℕ) → ((w : ℕ) → a ≤ w → w < a + n → h (f w) ≡ g w)
-    → map h (map f (range_with_len a n)) ≡ map g (range_with_len a n)
-each_width h f g a zero same = refl
-each_width {X} {Y} h f g a (suc n) same =
-    ap (λ (y : Y). y ∷ map h (map f (range_with_len (a + 1) n))) (same a (omega arith) (omega arith))
-    ∙ ap (λ (ys : List Y). g a ∷ ys) (each_width h f g (a + 1) n (λ w l m. same w (omega arith) (omega arith)))
 
 -- ---- a look-up at one width
 
@@ -125,7 +117,7 @@ pub accessed_curve : (stacks : List (List (Option Leaf))) (counts : List ℕ) (l
 unfolding curve_of curve_accessed
 accessed_curve stacks counts lookups leaf inside bounded =
     ap (λ (points : List Point). let c : HitCurve = record { points = points; lookups = plus lookups 1 } in c)
-    (sym (each_width (point_accessed leaf) (point_at stacks counts)
+    (sym (each_in_range (point_accessed leaf) (point_at stacks counts)
     (point_at (with_front (set_of (length stacks) leaf) leaf stacks) (counted (distance (same_leaf leaf) (get_or stacks (set_of (length stacks) leaf) [])) counts))
     1 64 (λ w l m. accessed_point stacks counts leaf w (omega arith) inside bounded)))
 
@@ -171,7 +163,7 @@ pub purged_curve : (stacks new : List (List (Option Leaf))) (counts : List ℕ) 
 unfolding curve_of curve_without
 purged_curve stacks new counts lookups q is =
     ap (λ (points : List Point). let c : HitCurve = record { points = points; lookups = lookups } in c)
-    (sym (each_width (point_without q) (point_at stacks counts) (point_at new counts) 1 64
+    (sym (each_in_range (point_without q) (point_at stacks counts) (point_at new counts) 1 64
     (λ w l m. same_point w (length stacks) (length new) _ _ _ _
     (sym (ap (λ (xs : List (List (Option Leaf))). length xs) is ∙ length-map stacks (map (place_without q))))
     (lists_purged q w stacks ∙ sym (ap (λ (xs : List (List (Option Leaf))). map (held w) xs) is)) refl)))
@@ -189,7 +181,7 @@ module _ (stacks new : List (List (Option Leaf))) (len : ℕ) (q : Leaf → Bool
 
 hits_of_points : (stacks : List (List (Option Leaf))) (counts : List ℕ)
     → map hits_of (map (point_at stacks counts) (range_with_len 1 64)) ≡ map (hits_below counts) (range_with_len 1 64)
-hits_of_points stacks counts = each_width hits_of (point_at stacks counts) (hits_below counts) 1 64 (λ w l m. refl)
+hits_of_points stacks counts = each_in_range hits_of (point_at stacks counts) (hits_below counts) 1 64 (λ w l m. refl)
 
 pub all_hits_known : (stacks : List (List (Option Leaf))) (counts : List ℕ) (lookups : ℕ)
     → map (hits_below counts) (range_with_len 1 64) ≡ map hits_of (curve_of stacks counts lookups).points

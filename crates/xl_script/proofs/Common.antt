@@ -4,7 +4,7 @@ pub use Rattle.std.proofs.lemmas.Bool.{cases_lt, eqb-true, le-leb, le-ltb, leb-t
 pub use Rattle.std.proofs.lemmas.List.{append-nil, drop-drop, drop_all, drop_more, get_or-drop, take-take, take_rest}
 pub use Rattle.std.proofs.lemmas.List.Sums.{prefix_len-le-length, prefix_len_is, prefix_len_stops, sum_by-cons}
 pub use Rattle.std.specs.List.{list_all, position, position_or_len, slice_range}
-pub use Rattle.std.specs.Prelude.{All, count_by, IfNone, IfSome, IsTrue, Result}
+pub use Rattle.std.specs.Prelude.{All, count_by, IfNone, IfSome, Result}
 pub use Rattle.memchr.specs.Find.{is_byte, IsFirstByte}
 pub use Rattle.xl_text.proofs.DigitLemmas.{digit_read, no_digit, none_read, number_after}
 pub use Rattle.xl_text.specs.Numbers.{address_of, number_in}
