@@ -65,6 +65,28 @@ def test_a_file_a_process_with_system_calls(xlab, tmp_path):
 def test_a_program_that_is_not_there(xlab):
     ended = xlab("trace", "no-such-program")
     assert ended.returncode == Status.NO_INPUT and "no such program" in ended.stderr
+    assert ended.stdout == ended.stderr
+
+
+@needs_valgrind
+def test_a_trace_that_fails_leaves_no_rows(xlab, program, tmp_path):
+    row = 'name = "a"\nmode = "sv39"\nframes = 1\nspaces = 1\ntable = "radix"\ntable_frames = 1\n'
+    (tmp_path / "row.toml").write_text(f"[[row]]\n{row}")
+    (tmp_path / "any.script").write_text("run 1\n")
+    words = ["--config", "row.toml", "--script", "any.script", "--trace", "/dev/stdin"]
+    text = xlab("trace", "no-such-program").stdout
+    ended = subprocess.run(
+        [program, *words], cwd=tmp_path, input=text, capture_output=True, text=True
+    )
+    assert ended.returncode == 4 and ended.stdout == ""
+    assert "trace line 1" in ended.stderr
+
+
+def test_a_file_that_fails_is_not_said_twice(xlab, tmp_path):
+    ended = xlab("records", "-o", "my.trace", "no-such.trace")
+    assert ended.returncode == Status.NO_INPUT and ended.stdout == ""
+    ended = xlab("records", "no-such.trace")
+    assert ended.returncode == Status.NO_INPUT and ended.stdout == ended.stderr
 
 
 @pytest.mark.parametrize(

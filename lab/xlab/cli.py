@@ -2,6 +2,7 @@
 completions."""
 
 import argparse
+import contextlib
 import difflib
 import functools
 import importlib
@@ -13,7 +14,7 @@ import traceback
 from types import ModuleType
 from typing import NoReturn
 
-from xlab import commands, needs
+from xlab import commands, files, needs
 from xlab.helppage import Example, paragraphs, shown
 from xlab.messages import Fault, Status
 from xlab.needs import Needs
@@ -76,7 +77,10 @@ def parser() -> Parser:
         )
         module.add_parser(made)
         made.set_defaults(
-            run=module.run, needs=module.NEEDS, passes_on=getattr(module, "PASSES_ON", False)
+            run=module.run,
+            needs=module.NEEDS,
+            passes_on=getattr(module, "PASSES_ON", False),
+            writes_trace=getattr(module, "WRITES_TRACE", False),
         )
     return top
 
@@ -94,7 +98,7 @@ def main(argv: list[str]) -> int:
         sys.stdout.flush()
         return status
     except Exception as fault:
-        return told(fault, f"xlab {words.subcommand}")
+        return told(fault, f"xlab {words.subcommand}", into_xlate(words))
     except KeyboardInterrupt:
         print(f"xlab {words.subcommand}: interrupted", file=sys.stderr)
         return Status.INTERRUPTED
@@ -117,8 +121,15 @@ def complete(top: Parser, argv: list[str]) -> None:
     importlib.import_module("argcomplete").autocomplete(top)
 
 
-def told(fault: Exception, who: str) -> int:
-    """Says what went wrong on standard error, and gives its status."""
+def into_xlate(words: argparse.Namespace) -> bool:
+    """Whether a trace goes to standard output, and no terminal has that: mostly into xlate."""
+    return words.writes_trace and words.output == files.STANDARD and not sys.stdout.isatty()
+
+
+def told(fault: Exception, who: str, spoils: bool = False) -> int:
+    """Says what went wrong on standard error, and gives its status. A trace on standard output
+    ends with the message, which is no line of a trace: so xlate, which can't see how its writer
+    ends, ends with status 4 in place of the rows of no trace, or of half of one."""
     match fault:
         case BrokenPipeError():
             _end_as_a_pipe_ends()
@@ -137,6 +148,10 @@ def told(fault: Exception, who: str) -> int:
     if DEBUG in os.environ:
         traceback.print_exception(fault)
     print(f"{who}: {message}", file=sys.stderr)
+    if spoils:
+        with contextlib.suppress(BrokenPipeError):
+            sys.stdout.flush()
+            print(f"{who}: {message}", flush=True)
     return status
 
 

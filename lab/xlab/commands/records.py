@@ -48,6 +48,7 @@ EXAMPLES = (
     ),
 )
 NEEDS = Needs(modules=("numpy",))
+WRITES_TRACE = True
 FORMS = ("lackey", "execlog", "drmemtrace", "pinatrace")
 
 

@@ -37,6 +37,9 @@ one's records are kept.
 Lackey writes about a million records a second, so a program runs some hundred times slower than by
 itself. Where --keep has enough, the program is stopped. Ctrl-C is the program's: what was traced
 before it is kept.
+
+Where a trace on standard output fails, its last line is the message, which is no record: so xlate
+ends with status 4, and not with rows of zeros.
 """
 EXAMPLES = (
     Example(
@@ -58,6 +61,7 @@ EXAMPLES = (
     ),
 )
 NEEDS = Needs(modules=("numpy",), programs=("valgrind",))
+WRITES_TRACE = True
 
 
 def add_parser(parser: argparse.ArgumentParser) -> None:
