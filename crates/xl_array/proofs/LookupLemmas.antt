@@ -2,7 +2,8 @@
 use Rattle.xl_array.proofs.Common.{◌∙◌, ap, Bool, leaves_in_sets, Option, Order, refl, small_leaf, sym, TlbArray, TlbSpec, ℕ}
 use Rattle.xl_array.proofs.HeldLemmas.{word-held}
 use Rattle.xl_array.proofs.SmallLemmas.{filled-small, word-small}
-use Rattle.xl_array.proofs.SpecLemmas.{spec_filled, spec_word}
+use Rattle.xl_model.proofs.ArrayLemmas.{filled-spec}
+use Rattle.xl_array.proofs.SpecLemmas.{spec_word}
 use Rattle.xl_array.specs.Held.{Counts, IsKnown}
 use Rattle.xl_array.specs.Lookup.{IsFilled, IsTouched}
 use Rattle.xl_array.specs.declared.lookup.Lookup.{Lookup}
@@ -22,6 +23,6 @@ known_filled held now large spec s word grown a b is known counts =
     record {
       counts = counts;
       smalls = λ none. rw is.array (filled-small leaf a refl (known.smalls none));
-      spec_is = known.spec_is ∙ sym (ap (λ (z : TlbArray). z.spec) is.array ∙ spec_filled leaf a);
+      spec_is = known.spec_is ∙ sym (ap (λ (z : TlbArray). z.spec) is.array ∙ filled-spec leaf a);
       some = known.some;
     }

@@ -15,7 +15,7 @@ use Rattle.xl_model.specs.declared.event.Refusal.{Refusal}
 use Rattle.xl_model.specs.declared.event.Scope.{Scope}
 use Rattle.xl_model.specs.declared.work.Refused.{Refused}
 use Rattle.xl_model.specs.declared.work.Work.{Work}
-use Rattle.xl_model_lemmas.proofs.PlaceLemmas.{orders-same}
+use Rattle.xl_model.proofs.OrderLemmas.{orders-same}
 use Rattle.xl_model_lemmas.proofs.RuleLemmas.{or-first, or-second}
 use Rattle.xl_model.specs.declared.event.Event.TheVariants as event
 use Rattle.xl_model.specs.declared.event.Outcome.TheVariants as outcome

@@ -228,7 +228,3 @@ found-count tag e v hs blocks f = count-of tag e v hs blocks (found-under tag hs
 pub given-some : (perm : Perm) (word : ℕ) → 0 < given_word perm word
 unfolding leaf_word
 given-some perm word = omega arith
-
-pub word-some : (frame : ℕ) (perm : Perm) → 0 < leaf_word frame perm
-unfolding leaf_word
-word-some frame perm = omega arith

@@ -1,5 +1,6 @@
 -- A row that is read keeps the rules of a row.
 use Rattle.xl_config.proofs.Common.{if◌then◌else◌, ◌&&◌, ◌*◌, ◌++◌, ◌+◌, ◌-◌, ◌<◌, ◌==◌, ◌>>=◌, ◌||◌, ◌∙◌, ◌∷◌, ◌≡◌, ◌≤◌, [], agree, All, ap, arith, array_in, array_of, arrays_by, arrays_from, arrays_in, as_integer, bad, between, Bool, bytes_eq, caches_by, caches_in, checked, clustered_in, codes, count_items, cuckoo_in, Data, drop, element_in, Err, false, found, get_member, Gives, hashed_in, IfOk, is_array, is_array_key, is_known, is_name, is_name_byte, is_table, is_width, is_within, IsRow, item, Items, keyed, kind_in, length, length-append, levels_rise, List, list_all, list_any, Members, mode_in, name_in, names_of, nat_le, needed, no_items, None, none_clash, number_in, number_of, Ok, only_known, Option, order_named, order_of, orders_from, orders_in, pos, purge_in, radix_in, range_in, range_tlb_by, refl, Result, Row, row_in, rows_from, serves_in, set, set as slice_set, Some, subst, suc, sym, table_in, table_of, text_of, true, width_by, width_in, width_of, widths_from, with_order, without_orders, zero, ℕ, ℤ}
+use Rattle.xl_model.proofs.BoolLemmas.{both-so, so-both}
 use Rattle.std.proofs.lemmas.Bool.{eqb-true, leb-true}
 use Rattle.std.proofs.lemmas.List.{drop-set-lt}
 use Rattle.std.proofs.lemmas.List.Elements.{All-nil, All-push}
@@ -41,13 +42,6 @@ checked_fits : {A : Type 0} (P : A → Type 0) (e : KeyFault) (test : Bool) (a :
 checked_fits P e true a h = h refl
 checked_fits P e false a h = tt
 
-both_true : (a b : Bool) → (a && b) ≡ true → (a ≡ true) × (b ≡ true)
-both_true true b h = (refl, h)
-both_true false b h = cc
-
-true_both : (a b : Bool) → a ≡ true → b ≡ true → (a && b) ≡ true
-true_both a b h k = rw (h, k) refl
-
 -- numbers lie in their limits
 between_is : (least most : ℕ) (z : ℤ) (n : ℕ) → between least most z ≡ Some n → is_within least most n ≡ true
 between_is least most (pos m) n h =
@@ -68,7 +62,7 @@ IsWidth least n = (is_width n ≡ true) × (nat_le least n ≡ true)
 width_is : (least : ℕ) (z : ℤ) (n : ℕ) → width_by least z ≡ Some n → IsWidth least n
 width_is least (pos m) n h =
     elim (is_width m && nat_le least m) as (λ v. (is_width m && nat_le least m) ≡ v → (if v then Some m else None) ≡ Some n → IsWidth least n) [
-      | true ↦ λ is e. let P : ℕ → Type 0 = λ k. IsWidth least k in subst P (same_Some m n e) (both_true (is_width m) (nat_le least m) is)
+      | true ↦ λ is e. let P : ℕ → Type 0 = λ k. IsWidth least k in subst P (same_Some m n e) (both-so (is_width m) (nat_le least m) is)
       | false ↦ λ is e. cc
     ] refl h
 width_is least _ n h = cc
@@ -84,10 +78,10 @@ CachesAre count ws = (list_all is_width ws ≡ true) × (list_all (λ w. w == 0)
 
 set_widths : (ws : List ℕ) (i w : ℕ) → list_all is_width ws ≡ true → is_width w ≡ true → list_all is_width (set ws i w) ≡ true
 set_widths [] i w h k = refl
-set_widths (v ∷ ws) zero w h k = true_both (is_width w) (list_all is_width ws) k (both_true (is_width v) (list_all is_width ws) h).1
+set_widths (v ∷ ws) zero w h k = so-both (is_width w) (list_all is_width ws) k (both-so (is_width v) (list_all is_width ws) h).1
 set_widths (v ∷ ws) (suc i) w h k =
-    let parts = both_true (is_width v) (list_all is_width ws) h in
-    true_both (is_width v) (list_all is_width (set ws i w)) parts.0 (set_widths ws i w parts.1 k)
+    let parts = both-so (is_width v) (list_all is_width ws) h in
+    so-both (is_width v) (list_all is_width (set ws i w)) parts.0 (set_widths ws i w parts.1 k)
 
 set_caches : (count : ℕ) (ws : List ℕ) (i w : ℕ) → i < count → is_width w ≡ true → CachesAre count ws → CachesAre count (set ws i w)
 set_caches count ws i w less is h =
@@ -134,21 +128,21 @@ unfolding radix_in
 radix_fits row mode spaces ms =
     then_fits _ (IsTable mode spaces) (number_in row 7 (codes "table_frames") spaces 16384 ms) _ (number_fits row 7 (codes "table_frames") spaces 16384 ms) (λ frames h.
     then_fits _ (IsTable mode spaces) (caches_in row (levels_of mode - 1) (0 ∷ 0 ∷ 0 ∷ 0 ∷ []) ms) _ (caches_fit row (levels_of mode - 1) _ ms (zero_caches mode)) (λ caches k.
-    true_both _ _ h (true_both _ _ k.0 k.1)))
+    so-both _ _ h (so-both _ _ k.0 k.1)))
 
 hashed_fits : (row : ℕ) (mode : Mode) (spaces : ℕ) (ms : Members) → Fits (IsTable mode spaces) (hashed_in row ms)
 unfolding hashed_in
 hashed_fits row mode spaces ms =
     then_fits _ (IsTable mode spaces) (number_in row 9 (codes "buckets") 1 1048576 ms) _ (number_fits row 9 (codes "buckets") 1 1048576 ms) (λ buckets h.
     then_fits _ (IsTable mode spaces) (number_in row 10 (codes "entries") 1 1048576 ms) _ (number_fits row 10 (codes "entries") 1 1048576 ms) (λ entries k.
-    true_both _ _ h k))
+    so-both _ _ h k))
 
 clustered_fits : (row : ℕ) (mode : Mode) (spaces : ℕ) (ms : Members) → Fits (IsTable mode spaces) (clustered_in row ms)
 unfolding clustered_in
 clustered_fits row mode spaces ms =
     then_fits _ (IsTable mode spaces) (number_in row 9 (codes "buckets") 1 1048576 ms) _ (number_fits row 9 (codes "buckets") 1 1048576 ms) (λ buckets h.
     then_fits _ (IsTable mode spaces) (number_in row 11 (codes "blocks") 1 131072 ms) _ (number_fits row 11 (codes "blocks") 1 131072 ms) (λ blocks k.
-    true_both _ _ h k))
+    so-both _ _ h k))
 
 cuckoo_fits : (row : ℕ) (mode : Mode) (spaces : ℕ) (ms : Members) → Fits (IsTable mode spaces) (cuckoo_in row ms)
 unfolding cuckoo_in
@@ -163,15 +157,15 @@ cuckoo_fits row mode spaces ms =
     then_fits _ Q (number_in row 17 (codes "migrate") 1 64 ms) _ (number_fits row 17 (codes "migrate") 1 64 ms) (λ migrate g.
     then_fits _ Q (number_in row 18 (codes "sections_2m") 1 262144 ms) _ (number_fits row 18 (codes "sections_2m") 1 262144 ms) (λ few h.
     then_fits _ Q (number_in row 19 (codes "sections_1g") 1 4096 ms) _ (number_fits row 19 (codes "sections_1g") 1 4096 ms) (λ large i.
-    true_both _ _ (true_both _ _ b (true_both _ _ c d))
-    (true_both _ _ (true_both _ _ e (true_both _ _ f g)) (true_both _ _ h (true_both _ _ i a.0))))))))))))
+    so-both _ _ (so-both _ _ b (so-both _ _ c d))
+    (so-both _ _ (so-both _ _ e (so-both _ _ f g)) (so-both _ _ h (so-both _ _ i a.0))))))))))))
 
 range_fits : (row : ℕ) (mode : Mode) (spaces : ℕ) (ms : Members) → Fits (IsTable mode spaces) (range_in row ms)
 unfolding range_in
 range_fits row mode spaces ms =
     then_fits _ (IsTable mode spaces) (number_in row 20 (codes "ranges") 1 65536 ms) _ (number_fits row 20 (codes "ranges") 1 65536 ms) (λ ranges h.
     then_fits _ (IsTable mode spaces) (range_tlb_by row (get_member (codes "range_tlb") ms)) _ (range_tlb_fits row (get_member (codes "range_tlb") ms)) (λ width k.
-    true_both _ _ h k))
+    so-both _ _ h k))
 
 table_fits : (k : TableKind) (row : ℕ) (mode : Mode) (spaces : ℕ) (ms : Members) → Fits (IsTable mode spaces) (table_in k row mode spaces ms)
 table_fits kind.Radix row mode spaces ms = radix_fits row mode spaces ms
@@ -237,7 +231,7 @@ orders_fit row (item d ds) t some =
     then_fits (Ordered t) (Ordered t) (order_of row d t) (orders_from row ds) (order_fits row d t) (λ u s. more_orders row ds t u s.0 s.1)
 
 some_of : (n : ℕ) → is_within 1 3 n ≡ true → 0 < n
-some_of n h = leb-true 1 n (both_true (nat_le 1 n) (nat_le n 3) h).0
+some_of n h = leb-true 1 n (both-so (nat_le 1 n) (nat_le n 3) h).0
 
 orders_in_fit : (row : ℕ) (ms : Members) (t : TlbSpec) → Fits (Ordered t) (orders_in row ms t)
 orders_in_fit row ms t =
@@ -256,7 +250,7 @@ array_is : (level sets width : ℕ) (t : TlbSpec) → is_within 1 3 level ≡ tr
     → Ordered (without_orders level sets width) t → nat_le (sets * width) 16384 ≡ true → IsArray t
 unfolding has_order
 array_is level sets width t a b c o few =
-    rw (o.0.0, o.0.1, o.0.2) (true_both _ _ (true_both _ _ a b) (true_both _ _ (true_both _ _ c.0 c.1) (true_both _ _ few o.1)))
+    rw (o.0.0, o.0.1, o.0.2) (so-both _ _ (so-both _ _ a b) (so-both _ _ (so-both _ _ c.0 c.1) (so-both _ _ few o.1)))
 
 array_fits : (row : ℕ) (ms : Members) → Fits IsArray (array_in row ms)
 unfolding array_in
@@ -277,7 +271,7 @@ AreArrays n ts = (length ts ≤ n) × (list_all is_array ts ≡ true)
 
 push_array : (n : ℕ) (ts : List TlbSpec) (t : TlbSpec) → AreArrays n ts → IsArray t → AreArrays (suc n) (ts ++ t ∷ [])
 push_array n ts t h k =
-    (omega (arith, h.0, length-append ts (t ∷ [])), list_all-append is_array ts (t ∷ []) ∙ true_both _ _ h.1 (true_both _ _ k refl))
+    (omega (arith, h.0, length-append ts (t ∷ [])), list_all-append is_array ts (t ∷ []) ∙ so-both _ _ h.1 (so-both _ _ k refl))
 
 arrays_fit : (row n : ℕ) (ds : Items) (ts : List TlbSpec) → AreArrays n ts → Fits (AreArrays (n + count_items ds)) (arrays_from row ds ts)
 arrays_fit row n no_items ts h = let e : n + 0 ≡ n = omega arith in rw e h
@@ -300,7 +294,7 @@ all_arrays_fit row ms = by_value (get_member (codes "tlb") ms)
     agreed : (ts : List TlbSpec) → AreArrays 6 ts → Fits ArraysAre (checked (bad row 22 rule.Disagrees) (agree ts) ts)
     agreed ts h =
         checked_fits ArraysAre (bad row 22 rule.Disagrees) (agree ts) ts (λ is.
-        let both = both_true (levels_rise ts) (none_clash ts) is in record { few = h.0; each = h.1; levels = both.0; apart = both.1 })
+        let both = both-so (levels_rise ts) (none_clash ts) is in record { few = h.0; each = h.1; levels = both.0; apart = both.1 })
 
     few_of : (n : ℕ) (ts : List TlbSpec) → nat_le n 6 ≡ true → AreArrays (0 + n) ts → AreArrays 6 ts
     few_of n ts less h = (omega (arith, h.0, leb-true n 6 less), h.1)
@@ -348,7 +342,7 @@ row_fits row earlier ms =
     then_fits ArraysAre IsRow (arrays_in row ms) _ (all_arrays_fit row ms) (λ tlb e.
     checked_fits IsRow (bad row 23 rule.NotAllowed) (only_known (is_known k) ms)
     (record { name = name; mode = mode; frames = frames; spaces = spaces; purge = purge; table = table; tlb = tlb }) (λ only.
-    let named = both_true (is_within 1 16 (length name)) (list_all is_name_byte name) a in record {
+    let named = both-so (is_within 1 16 (length name)) (list_all is_name_byte name) a in record {
       name_bytes = named.1;
       name_length = named.0;
       frames_in = b;

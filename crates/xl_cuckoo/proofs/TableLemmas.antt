@@ -1,6 +1,7 @@
 -- The table by its fields, after its ways were lent out and changed.
 use Rattle.xl_cuckoo.proofs.Common.{◌++◌, ◌+◌, ◌∙◌, ◌∷◌, ◌≡◌, ◌≤◌, [], ap, AreOnce, arith, changed_by, CuckooState, Displaced, entries_in, has_key, IsTable, length, List, map, opening_way, opening_ways, refl, shapes, suc, sym, tally, Vec, WayShape, WayState, with_items, with_items_is, zero, ℕ}
 use Rattle.xl_cuckoo.proofs.LoopLemmas.{shapes-map}
+use Rattle.xl_model_lemmas.proofs.WayTallyLemmas.{opening-length}
 
 -- the ways that come back
 pub items-back : {X Z : Type 0} (v : Vec X Z) (back now : List X) → back ≡ now → length now ≡ length v.items → (with_items v back).items ≡ now
@@ -41,10 +42,6 @@ pub opening-entries : (start most number n : ℕ) → entries_in (opening_ways s
 unfolding opening_way
 opening-entries start most number zero = refl
 opening-entries start most number (suc n) = opening-entries start most (number + 1) n
-
-pub opening-length : (start most number n : ℕ) → length (opening_ways start most number n) ≡ n
-opening-length start most number zero = refl
-opening-length start most number (suc n) = ap suc (opening-length start most (number + 1) n)
 
 pub opening-table : (d t k start most : ℕ) (ws : List WayShape) → ws ≡ opening_ways start most 0 d → 2 ≤ d → d ≤ 4 → t ≤ 100 → k ≤ 64 → IsTable d t k ws
 opening-table d t k start most ws is some few low limit = record {

@@ -1,5 +1,6 @@
 -- The bits of a section, by the counts of leaves and by a leaf that covers a page.
 use Rattle.xl_cuckoo_walk.proofs.Common.{◌%◌, ◌&&◌, ◌*◌, ◌+◌, ◌-◌, ◌/◌, ◌<◌, ◌==◌, ◌^◌, ◌∙◌, ◌∷◌, ◌≡◌, ◌≤◌, [], AllAbove, any-each, ap, arith, Bool, by-fields, Count, count_of, counts_at, counts_for, covers, false, holder_from, holds_order, In, inl, inr, is_counted, IsAligned, IsPlaced, IsSorted, IsTied, key_in, Leaf, leaf_key, level_of, List, nat_le, nat_tests, new_word, not, of_order, one_if, Option, Order, pages_of, part, parts-are, refl, same_order, section_by, section_key, section_of, sym, tally, tally-any, true, way_where, WayShape, word_by, ℕ}
+use Rattle.std.specs.Cmp.{first_so, second_so}
 use Rattle.xl_sections.specs.Counted.{word_of}
 use Rattle.xl_cuckoo_walk.proofs.CodeLemmas.{IsWord, word-back}
 use Rattle.xl_cuckoo_walk.proofs.SectionLemmas.{counts-same}
@@ -35,20 +36,12 @@ in-stretch order.K4 key space first h e = let a : key / 2 ^ 45 ≡ space = omega
 in-stretch order.M2 key space first h e = let a : key / 2 ^ 45 ≡ space = omega arith in let b : key % 2 ^ 45 ≡ first / 512 = omega arith in (omega arith, omega arith)
 in-stretch order.G1 key space first h e = let a : key / 2 ^ 45 ≡ space = omega arith in let b : key % 2 ^ 45 ≡ first / 262144 = omega arith in (omega arith, omega arith)
 
-pub and-first : (a b : Bool) → (a && b) ≡ true → a ≡ true
-and-first true b h = refl
-and-first false b h = h
-
-pub and-second : (a b : Bool) → (a && b) ≡ true → b ≡ true
-and-second true b h = h
-and-second false b h = absurd (cc)
-
 pub few-in : (size : Order) (key : ℕ) (o : Order) (leaves : List Leaf) → IsSorted leaves → ((x : Leaf) → In x leaves → IsPlaced x) → tally (of_order size key o) leaves ≤ 2 ^ 18
 few-in size key o leaves sorted placed =
     let low : ℕ = key / 2 ^ 45 * 2 ^ 52 + key % 2 ^ 45 * pages_of size in
     let few : tally (of_order size key o) leaves ≤ low + 2 ^ 18 - low = tally-within (of_order size key o) low (low + 2 ^ 18) leaves sorted (λ x i t.
-    let c : counts_at size key x ≡ true = and-first (counts_at size key x) (same_order x.order o) t in
-    let d : (key_in size x == key) ≡ true = and-second (nat_le (level_of x.order) (level_of size)) (key_in size x == key) c in
+    let c : counts_at size key x ≡ true = first_so (counts_at size key x) (same_order x.order o) t in
+    let d : (key_in size x == key) ≡ true = second_so (nat_le (level_of x.order) (level_of size)) (key_in size x == key) c in
     let e : key_in size x ≡ key = grind (arith, nat_tests) in
     in-stretch size key x.space x.first (placed x i).page_in e) in
     omega arith

@@ -45,7 +45,8 @@ pub use Rattle.xl_model.specs.declared.work.Work.{Work}
 pub use Rattle.xl_model_lemmas.proofs.FreshSectionLemmas.{by-fields, holder-same, section-after, section-fenced, section-refused, section-some, section-walked, sections-same}
 pub use Rattle.xl_model_lemmas.proofs.InsertionLemmas.{In-with, stays-with, with-In, without-In, without-other}
 pub use Rattle.xl_model_lemmas.proofs.MappingLemmas.{named-In, named-is}
-pub use Rattle.xl_model_lemmas.proofs.PlaceLemmas.{aligned-frame, covers-meets, first-covered, level-low, named-first, named-order, named-space, order-same, orders-same, pages-some, same-level}
+pub use Rattle.xl_model.proofs.OrderLemmas.{order-same, orders-same, same-level}
+pub use Rattle.xl_model_lemmas.proofs.PlaceLemmas.{aligned-frame, covers-meets, first-covered, level-low, named-first, named-order, named-space, pages-some}
 pub use Rattle.xl_model_lemmas.proofs.PlacingLemmas.{attempt-by, entries-same, forced-entries, insertion-by, one_of, placing-by, set-length, Succeeded, swapped-adds}
 pub use Rattle.xl_model_lemmas.proofs.SearchLemmas.{only, only-first}
 pub use Rattle.xl_model_lemmas.proofs.SectionLemmas.{count-keys, In-keys, keys-In, keys-once, small-block}

@@ -1,6 +1,8 @@
 -- Probes as planned by the cached sections.
 use Rattle.xl_cuckoo_walk.proofs.Common.{◌%◌, ◌&&◌, ◌*◌, ◌+◌, ◌/◌, ◌<◌, ◌==◌, ◌^◌, ◌||◌, ◌∙◌, ◌≡◌, ◌≤◌, ◌⊎◌, any-In, ap, AreHeld, arith, Bool, Cached, cond, counts_for, covers, CuckooWays, false, find, find-In, find-passes, found-is, has_leaves, holder_from, holds, holds_order, In, In-any, inl, inr, is_section, is_some, IsIn, Leaf, leaf-some, leaf_said_by, leaf_tag, leaf_word, leaves_possible, length, level-low, level_of, List, loads_by, MadeWordsReadBack, meets_block, nat_le, nat_tests, None, none-any, One, only, Option, Order, order-same, orders-same, own_section, pages-some, pages_of, plan_at, plan_by, plan_of, probes, refl, same_order, Section, section_key, section_of, section_of_page, SectionFresh, SectionsFresh, slice_index, slot_of, Some, subst, sym, tag_of, tags_in, true, value_by, value_of, values_in, way_at, way_found, way_known, way_where, ways_of, WayShape, word_at, word_list, word_of, ℕ}
-use Rattle.xl_cuckoo_walk.proofs.BitLemmas.{and-first, and-second, counts-covered}
+use Rattle.xl_model.proofs.BoolLemmas.{so-both}
+use Rattle.std.specs.Cmp.{first_so, second_so}
+use Rattle.xl_cuckoo_walk.proofs.BitLemmas.{counts-covered}
 use Rattle.xl_cuckoo_walk.proofs.HolderLemmas.{found-said, holder, IsHolder, word-under}
 use Rattle.xl_model.specs.declared.address.Order.TheVariants as order
 
@@ -31,10 +33,6 @@ holds-bit size order.K4 s block leaves ways = refl
 holds-bit size order.M2 s block leaves ways = refl
 holds-bit size order.G1 s block leaves ways = refl
 
-both : (a b : Bool) → a ≡ true → b ≡ true → (a && b) ≡ true
-both true b h k = k
-both false b h k = h
-
 -- no leaf of 1 GiB counts for a 2 MiB section
 no-large : (s block : ℕ) (leaves : List Leaf) → holds_order order.M2 s block order.G1 leaves ≡ false
 no-large s block leaves = none-any (λ x. counts_for order.M2 s block x && same_order x.order order.G1) leaves (λ x i. go (x.space == s) x.order (x.first / 512 == block))
@@ -53,7 +51,7 @@ module _ (back : MadeWordsReadBack) (ws : CuckooWays) (leaves : List Leaf) (held
   pub covered-bit : (size : Order) (x : Leaf) → In x leaves → covers s page x ≡ true → level_of x.order ≤ level_of size → holds_order size s (page / pages_of size) x.order leaves ≡ true
   covered-bit size x i c l =
       In-any (λ leaf. counts_for size s (page / pages_of size) leaf && same_order leaf.order x.order) x leaves i
-      (both (counts_for size s (page / pages_of size) x) (same_order x.order x.order) (counts-covered size s page x (held.fit x i).aligned l c) (order-same x.order))
+      (so-both (counts_for size s (page / pages_of size) x) (same_order x.order x.order) (counts-covered size s page x (held.fit x i).aligned l c) (order-same x.order))
 
   possible-large : (hit : Option Section) → AreHits order.G1 s page leaves ws hit → (x : Leaf) → In x leaves → covers s page x ≡ true → leaves_possible hit x.order ≡ true
   possible-large None h x i c = refl
@@ -98,8 +96,8 @@ module _ (back : MadeWordsReadBack) (ws : CuckooWays) (leaves : List Leaf) (held
       never o e l b =
           let q = any-In (λ leaf. counts_for order.M2 s (page / 512) leaf && same_order leaf.order o) leaves (sym (holds-bit order.M2 o s (page / 512) leaves ws.m2) ∙ ap (λ y. holds y o) (sym (h z refl).is) ∙ b) in
           let y : Leaf = q.0 in
-          let cy : counts_for order.M2 s (page / 512) y ≡ true = and-first (counts_for order.M2 s (page / 512) y) (same_order y.order o) q.2 in
-          let oy : y.order ≡ o = orders-same y.order o (and-second (counts_for order.M2 s (page / 512) y) (same_order y.order o) q.2) in
+          let cy : counts_for order.M2 s (page / 512) y ≡ true = first_so (counts_for order.M2 s (page / 512) y) (same_order y.order o) q.2 in
+          let oy : y.order ≡ o = orders-same y.order o (second_so (counts_for order.M2 s (page / 512) y) (same_order y.order o) q.2) in
           apart-middle o x y i q.1 e c cy oy l
 
       none : z.has_g1 ≡ false
@@ -162,8 +160,8 @@ module _ (back : MadeWordsReadBack) (ws : CuckooWays) (leaves : List Leaf) (held
       let bit : holds_order size s (page / pages_of size) size leaves ≡ true = sym (holds-bit size size s (page / pages_of size) leaves (ways_of size ws)) ∙ ap (λ y. holds y size) (sym h) ∙ b in
       let q = any-In (λ leaf. counts_for size s (page / pages_of size) leaf && same_order leaf.order size) leaves bit in
       let y : Leaf = q.0 in
-      let cy : counts_for size s (page / pages_of size) y ≡ true = and-first (counts_for size s (page / pages_of size) y) (same_order y.order size) q.2 in
-      let oy : y.order ≡ size = orders-same y.order size (and-second (counts_for size s (page / pages_of size) y) (same_order y.order size) q.2) in
+      let cy : counts_for size s (page / pages_of size) y ≡ true = first_so (counts_for size s (page / pages_of size) y) (same_order y.order size) q.2 in
+      let oy : y.order ≡ size = orders-same y.order size (second_so (counts_for size s (page / pages_of size) y) (same_order y.order size) q.2) in
       let sy : y.space ≡ s = grind (arith, nat_tests) in
       let d : y.first / pages_of size ≡ page / pages_of size = grind (arith, nat_tests) in
       known-by size z h bit (holder 0 (ways_of size ws) (key_at size) (some-value size y q.1 oy sy d))
@@ -200,7 +198,7 @@ module _ (back : MadeWordsReadBack) (ws : CuckooWays) (leaves : List Leaf) (held
                 let c : covers s page x ≡ true = find-passes (covers s page) x leaves f in
                 let l = possible-middle h2 a x i c in
                 let m = possible-large h1 b x i c in
-                let n = both (leaves_possible h2 o) (leaves_possible h1 o) (ap (leaves_possible h2) (sym e) ∙ l) (ap (leaves_possible h1) (sym e) ∙ m) in
+                let n = so-both (leaves_possible h2 o) (leaves_possible h1 o) (ap (leaves_possible h2) (sym e) ∙ l) (ap (leaves_possible h1) (sym e) ∙ m) in
                 let z : true ≡ false = sym n ∙ p in
                 absurd (cc)
             | false ↦ λ u. refl

@@ -1,5 +1,5 @@
 -- The leaf of a name, and a row after a leaf came or went.
-use Rattle.xl_cuckoo_walk.proofs.Common.{◌&&◌, ◌*◌, ◌+◌, ◌-◌, ◌/◌, ◌<◌, ◌^◌, ◌∙◌, ◌∷◌, ◌≡◌, ◌≤◌, [], ap, arith, Cached, Change, changed, compared, counts_of, Cuckoo, CuckooState, CuckooWays, false, has_room, HoldsLeaves, In, Insert, is_leaf, is_some, IsChange, IsEntered, IsFit, IsLeafFor, IsLeft, IsNamed, IsRow, IsSome, IsTied, keys_moved, Large, Leaf, leaf_entry, leaf_named, leaf_word, leaves_of_ways, length, List, loads_in, MadeWordsReadBack, map, meets_any, Middle, Moves, named-first, named-In, named-is, named-order, named-space, nat_le, new_word, no_moves, None, Ok, Option, Order, order_of, page_key, page_keys, pages_of, Perm, refl, Refused, Remove, Result, row_state, RowParts, rules_in, Section, section_count, sections_in, Size, slice_index, Some, subst, sym, table_of, TableState, true, value_of, ways_in, ways_of, with_leaf, with_ways, without_entry, without_leaf, word_list, word_of_key, Work, work_of, ℕ}
+use Rattle.xl_cuckoo_walk.proofs.Common.{◌&&◌, ◌*◌, ◌+◌, ◌-◌, ◌/◌, ◌<◌, ◌^◌, ◌∙◌, ◌∷◌, ◌≡◌, ◌≤◌, [], ap, arith, Cached, Change, changed, compared, counts_of, Cuckoo, CuckooState, CuckooWays, false, has_room, HoldsLeaves, In, Insert, is_leaf, is_some, IsChange, IsEntered, IsFit, IsLeafFor, IsLeft, IsNamed, IsRow, IsSome, IsTied, keys_moved, Large, Leaf, leaf_entry, leaf_named, leaf_word, leaves_of_ways, length, List, loads_in, MadeWordsReadBack, map, meets_any, Middle, Moves, named-first, named-In, named-is, named-order, named-space, nat_le, new_word, no_moves, None, Ok, Option, Order, order_of, page_key, page_keys, pages_of, refl, Refused, Remove, Result, row_state, RowParts, rules_in, Section, section_count, sections_in, Size, slice_index, Some, subst, sym, table_of, TableState, true, value_of, ways_in, ways_of, with_leaf, with_ways, without_entry, without_leaf, word_list, word_of_key, Work, work_of, ℕ}
 use Rattle.xl_cuckoo_walk.proofs.ComparedLemmas.{both_keys, cached-items, compared-row, compared-twice, ComparedRow, WordsStay}
 use Rattle.xl_cuckoo_walk.proofs.HoldLemmas.{apart-leaf, entry-key, fit-leaf, free-now}
 use Rattle.xl_cuckoo_walk.proofs.RowLemmas.{leaf-value, some-value}
@@ -68,11 +68,6 @@ by-name P p space first o n h = subst (λ q. P space first q) n.order_is (subst 
 pub to-name : (P : ℕ → ℕ → Order → Type 0) (p : RowParts) (space first : ℕ) (o : Order) (n : NamedLeaf p space first o) → P space first o → P n.leaf.space n.leaf.first n.leaf.order
 to-name P p space first o n h =
     subst (λ q. P n.leaf.space n.leaf.first q) (sym n.order_is) (subst (λ f. P n.leaf.space f o) (sym n.first_is) (subst (λ s. P s first o) (sym n.space_is) h))
-
--- a leaf's word isn't 0
-pub word-some : (frame : ℕ) (q : Perm) → 0 < leaf_word frame q
-unfolding leaf_word
-word-some frame q = omega arith
 
 -- how many sections are cached
 abbrev pub items_of : RowParts → ℕ

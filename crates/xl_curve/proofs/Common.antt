@@ -10,10 +10,11 @@ pub use Rattle.std.specs.List.{list_all, range_with_len, remove, sum}
 pub use Rattle.std.specs.Prelude.{IfSome}
 pub use Rattle.xl_array.proofs.DropLemmas.{each_order}
 pub use Rattle.xl_array.specs.Arrays.{covers_anywhere, covers_anywhere_as, IsFit}
-pub use Rattle.xl_curve_model.proofs.SameLeafLemmas.{found_same, leaf_same, leaf_self, order_same}
+pub use Rattle.xl_curve_model.proofs.SameLeafLemmas.{found_same, leaf_same, leaf_self}
 pub use Rattle.xl_curve_model.specs.Curves.{HitCurve, hits_of, looked_for, opening_point, Point, point_accessed, point_without, same_leaf, spec_of_width}
 unfoldable pub use Rattle.xl_curve_model.specs.Curves.{curve_accessed, curve_missed, curve_without, hits_at, opening_curve}
 pub use Rattle.xl_list_lemmas.proofs.MemberLemmas.{same-tests}
+pub use Rattle.xl_model.proofs.OrderLemmas.{orders-same}
 pub use Rattle.xl_model.specs.Addresses.{level_of, order_at, pages_of, same_order}
 pub use Rattle.xl_model.specs.Mapping.{covers, is_leaf}
 pub use Rattle.xl_model.specs.Recency.{in_front, purged, touched, with_newest, without_first}

@@ -1,5 +1,5 @@
 -- Each leaf is in its own set, so that what is looked for in one set is in no other.
-use Rattle.xl_curve.proofs.Common.{◌%◌, ◌&&◌, ◌+◌, ◌/◌, ◌<◌, ◌==◌, ◌||◌, ◌∙◌, ◌∷◌, ◌≡◌, ◌≤◌, [], ap, arith, Bool, covers, covers_as, false, first_so, get_or, get_or-set_other, get_or-set_same, get_or_default, hole_where, is_leaf, is_placed, IsCurve, IsThinned, Leaf, length, length-map, length-set, List, list_all, map, nat_tests, None, Option, Order, order_same, pages_of, place_without, refl, removed, same_order, second_so, set, set_of, shifted, Some, subst, suc, sym, take, true, vacated, with_removed, zero, ℕ}
+use Rattle.xl_curve.proofs.Common.{◌%◌, ◌&&◌, ◌+◌, ◌/◌, ◌<◌, ◌==◌, ◌||◌, ◌∙◌, ◌∷◌, ◌≡◌, ◌≤◌, [], ap, arith, Bool, covers, covers_as, false, first_so, get_or, get_or-set_other, get_or-set_same, get_or_default, hole_where, is_leaf, is_placed, IsCurve, IsThinned, Leaf, length, length-map, length-set, List, list_all, map, nat_tests, None, Option, Order, orders-same, pages_of, place_without, refl, removed, same_order, second_so, set, set_of, shifted, Some, subst, suc, sym, take, true, vacated, with_removed, zero, ℕ}
 use Rattle.std.proofs.Math.ListN.{get_or-map}
 use Rattle.xl_model.specs.declared.address.Order.TheVariants as order
 
@@ -137,7 +137,7 @@ named_removed stacks new k space first o kept e is =
     let r : ((x.first == first) && same_order x.order o) ≡ true = second_so (x.space == space) ((x.first == first) && same_order x.order o) t in
     let f : (x.first == first) ≡ true = first_so (x.first == first) (same_order x.order o) r in
     let first_is : x.first ≡ first = grind (arith, nat_tests) in
-    let order_is : x.order ≡ o = order_same x.order o (second_so (x.first == first) (same_order x.order o) r) in
+    let order_is : x.order ≡ o = orders-same x.order o (second_so (x.first == first) (same_order x.order o) r) in
     rw (first_is, order_is) (sym e)) is
 
 block : (first page : ℕ) (o : Order) → first % pages_of o ≡ 0 → first ≤ page → page < first + pages_of o → first / pages_of o ≡ page / pages_of o
@@ -149,7 +149,7 @@ block first page order.G1 aligned l m = omega arith
 covering_set : (sets k space page : ℕ) (o : Order) (x : Leaf) → k ≡ page / pages_of o % sets → x.first % pages_of x.order ≡ 0
     → covers_as space page o x ≡ true → set_of sets x ≡ k
 covering_set sets k space page o x e aligned t =
-    let order_is : x.order ≡ o = order_same x.order o (first_so (same_order x.order o) (covers space page x) t) in
+    let order_is : x.order ≡ o = orders-same x.order o (first_so (same_order x.order o) (covers space page x) t) in
     let c : covers space page x ≡ true = second_so (same_order x.order o) (covers space page x) t in
     let low : x.first ≤ page = grind (arith, nat_tests) in
     let high : page < x.first + pages_of x.order = grind (arith, nat_tests) in

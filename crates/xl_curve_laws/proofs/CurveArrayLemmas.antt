@@ -3,7 +3,7 @@ use Rattle.xl_curve_laws.proofs.Common.{◌%◌, ◌*◌, ◌+◌, ◌/◌, ◌<
 use Rattle.xl_curve_model.proofs.SameLeafLemmas.{leaf_same, leaf_self}
 use Rattle.xl_model.specs.Recency.{in_front, touched, without_first}
 use Rattle.xl_model.specs.declared.address.Order.{Order}
-use Rattle.xl_model_lemmas.proofs.PlaceLemmas.{order-same, orders-same}
+use Rattle.xl_model.proofs.OrderLemmas.{order-same, orders-same}
 use Rattle.xl_model_lemmas.specs.Mappings.{IsMapping}
 use Rattle.xl_model.specs.declared.address.Order.TheVariants as order
 

@@ -25,7 +25,7 @@ use Rattle.xl_model.specs.declared.script.Area.{Area}
 use Rattle.xl_model.specs.declared.script.Item.{Item}
 use Rattle.xl_model.specs.declared.script.Item.TheVariants.{Command, Declared, Referenced}
 use Rattle.xl_model_laws.proofs.FreshLemmas.{event-kept, Kept, opening-kept}
-use Rattle.xl_model_lemmas.proofs.FreshArrayLemmas.{filled-spec, touched-spec}
+use Rattle.xl_model.proofs.ArrayLemmas.{filled-spec, touched-spec}
 use Rattle.xl_curve_laws.proofs.CurveArrayLemmas.{hit-held, hit-own, hit-touched, miss-each, miss-held, takes-all, TakesAll}
 use Rattle.xl_curve_laws.specs.CurveLaws.{TheCurveIsThatOfEachWidth, with_array}
 use Rattle.xl_model.specs.declared.event.Event.TheVariants as event

@@ -2,6 +2,7 @@
 use Rattle.std.proofs.Common.{◌&&◌, ◌==◌, ◌∙◌, ◌∷◌, ◌≡◌, [], ap, arith, Bool, false, find, List, refl, Some, sym, true, ℕ}
 use Rattle.std.proofs.lemmas.Bool.Decides.{nat_tests}
 use Rattle.std.specs.Cmp.{first_so, second_so}
+use Rattle.xl_model.proofs.OrderLemmas.{order-same, orders-same}
 use Rattle.xl_model.proofs.PermLemmas.{perms-same}
 use Rattle.xl_model.specs.Addresses.{same_order}
 use Rattle.xl_model.specs.Base.{same_bit}
@@ -11,19 +12,6 @@ use Rattle.xl_model.specs.declared.address.Order.{Order}
 use Rattle.xl_model.specs.declared.leaf.Leaf.{Leaf}
 use Rattle.xl_model.specs.declared.perm.Perm.{Perm}
 use Rattle.xl_curve_model.specs.Curves.{same_leaf}
-use Rattle.xl_model.specs.declared.address.Order.TheVariants as order
-
--- two orders that are the same are one
-pub order_same : (a b : Order) → same_order a b ≡ true → a ≡ b
-order_same order.K4 order.K4 e = refl
-order_same order.K4 order.M2 e = absurd (cc)
-order_same order.K4 order.G1 e = absurd (cc)
-order_same order.M2 order.K4 e = absurd (cc)
-order_same order.M2 order.M2 e = refl
-order_same order.M2 order.G1 e = absurd (cc)
-order_same order.G1 order.K4 e = absurd (cc)
-order_same order.G1 order.M2 e = absurd (cc)
-order_same order.G1 order.G1 e = refl
 
 abbrev leaf_of : ℕ → ℕ → Order → ℕ → Perm → Leaf
 leaf_of space first order frame perm = record { space = space; first = first; order = order; frame = frame; perm = perm }
@@ -38,7 +26,7 @@ leaf_same a b e =
     let l4 : (b.frame == a.frame) ≡ true = first_so (b.frame == a.frame) (same_perm a.perm b.perm) r in
     let s : b.space ≡ a.space = grind (arith, nat_tests) in
     let f : b.first ≡ a.first = grind (arith, nat_tests) in
-    let o : b.order ≡ a.order = order_same b.order a.order (second_so (b.first == a.first) (same_order b.order a.order) l2) in
+    let o : b.order ≡ a.order = orders-same b.order a.order (second_so (b.first == a.first) (same_order b.order a.order) l2) in
     let g : b.frame ≡ a.frame = grind (arith, nat_tests) in
     let p : b.perm ≡ a.perm = sym (perms-same a.perm b.perm (second_so (b.frame == a.frame) (same_perm a.perm b.perm) r)) in
     ap (λ (n : ℕ). leaf_of n b.first b.order b.frame b.perm) s
@@ -60,11 +48,6 @@ same_bit_self : (b : Bool) → same_bit b b ≡ true
 same_bit_self true = refl
 same_bit_self false = refl
 
-order_self : (o : Order) → same_order o o ≡ true
-order_self order.K4 = refl
-order_self order.M2 = refl
-order_self order.G1 = refl
-
 number_self : (n : ℕ) → (n == n) ≡ true
 number_self n = grind (arith, nat_tests)
 
@@ -74,7 +57,7 @@ leaf_self a =
     rw (
       number_self a.space,
       number_self a.first,
-      order_self a.order,
+      order-same a.order,
       number_self a.frame,
       same_bit_self a.perm.r,
       same_bit_self a.perm.w,

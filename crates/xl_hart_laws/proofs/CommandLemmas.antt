@@ -1,14 +1,11 @@
 -- Commands of harts that no refusal stops: their changes are sound, and the table makes them.
-use Rattle.xl_hart_laws.proofs.Common.{◌&&◌, ◌∷◌, ◌≡◌, [], Bool, brought, Chained, Change, change_of, change_rule, changed, Cuckoo, Event, false, finds_place, first_refusal, hart_change, hart_refusal, hart_rule, HartRefusal, HartSpec, HartsState, has-place, HasPlace, held_leaves, In-left, Insert, insert_at, is_full, IsAnswer, IsFree, IsSound, IsTable, kept_leaves, Leaf, List, list_any, lowest, lowest-is-lowest, narrowed, no-overlap, None, not, of_mapping, Option, or-first, or-second, Order, page-block, page_of, pages_of, Perm, Protect, Radix, refl, refused_unless, Relocate, Remove, rule, Runs, Shape, shape_after, shared_row, Some, sound-of, subst, table_after, table_made, TableState, true, verdict, widened, ℕ}
+use Rattle.xl_hart_laws.proofs.Common.{◌∷◌, ◌≡◌, [], Bool, brought, Chained, Change, change_of, change_rule, changed, Cuckoo, Event, false, finds_place, first_refusal, hart_change, hart_refusal, hart_rule, HartRefusal, HartSpec, HartsState, has-place, HasPlace, held_leaves, In-left, Insert, insert_at, is_full, IsAnswer, IsFree, IsSound, IsTable, kept_leaves, Leaf, List, list_any, lowest, lowest-is-lowest, narrowed, no-overlap, None, not, of_mapping, Option, or-first, or-second, Order, page-block, page_of, pages_of, Perm, Protect, Radix, refl, refused_unless, Relocate, Remove, rule, Runs, Shape, shape_after, shared_row, Some, sound-of, subst, table_after, table_made, TableState, true, verdict, widened, ℕ}
+use Rattle.std.specs.Cmp.{first_so}
 use Rattle.xl_model.specs.Room.{has_room}
 use Rattle.xl_model.specs.declared.event.Refusal.{Refusal}
 use Rattle.xl_hart_model.specs.declared.hart.HartEvent.TheVariants as step
 use Rattle.xl_model.specs.declared.address.Mode.TheVariants as mode
 use Rattle.xl_model.specs.declared.event.Event.TheVariants as event
-
-pub and_first : (a b : Bool) → (a && b) ≡ true → a ≡ true
-and_first true b h = refl
-and_first false b h = h
 
 -- A change that no refusal stops is sound; a leaf that comes is in frames that no leaf holds, and
 -- none is held back.
@@ -24,7 +21,7 @@ unfolding hart_rule
 new-leaf s space va o perm None c ruled is known = absurd (cc)
 new-leaf s space va o perm (Some at) c ruled is known =
     let place : HasPlace (shared_row s.spec) space o (va ∷ []) = has-place (shared_row s.spec) space o (va ∷ []) (or-first _ _ ruled) in
-    let block = page-block mode.Sv39 o va (and_first _ _ place.all_aligned) in
+    let block = page-block mode.Sv39 o va (first_so _ _ place.all_aligned) in
     let leaf : Leaf = record { space = space; first = page_of mode.Sv39 va; order = o; frame = at; perm = perm } in
     let same : Insert leaf ≡ c = (cc) in
     subst (λ (d : Change). IsAllowed s d) same (record {

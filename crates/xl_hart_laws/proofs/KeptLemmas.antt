@@ -1,9 +1,11 @@
 -- What harts keep, after each event.
-use Rattle.xl_hart_laws.proofs.Common.{◌++◌, ◌+◌, ◌-◌, ◌<◌, ◌==◌, ◌∙◌, ◌∷◌, ◌≡◌, ◌≤◌, accessed_by, after_hart_event, after_hart_refusal, ap, arith, array_fenced, array_walked, Bool, Change, change_rule, changed, covers, current_hart, Event, false, find-In, get_or, Hart, hart_accessed, hart_asked, hart_at, hart_change, hart_fenced, hart_hit, hart_refusal, hart_replied, hart_rule, hart_served, hart_switched, hart_walked, HartEvent, HartRefusal, HartSpec, HartsState, held_leaves, holds-meets, holds_frames, In, inl, inr, Insert, InSets, is_equal, is_full, IsFree, IsHart, IsHartSpec, IsHistory, IsKept, IsOfOlder, kept_leaves, Kind, Leaf, leaf_at_page, length, length-set, level_of, List, list_any, longest, mapping_changed, nat_lt, nat_tests, None, not, older, oldest, opening_hart, Option, own_served, owners, pages_of, Protect, refl, Relocate, Remove, Request, request_of, request_taken, rule, set, shared_row, Some, subst, suc, sym, table_made, table_walked, TableState, take, TlbArray, true, undone, unless-true, with_taken, ℕ}
+use Rattle.xl_hart_laws.proofs.Common.{◌++◌, ◌+◌, ◌-◌, ◌<◌, ◌∙◌, ◌∷◌, ◌≡◌, ◌≤◌, accessed_by, after_hart_event, after_hart_refusal, ap, arith, array_fenced, array_walked, Bool, Change, change_rule, changed, current_hart, Event, false, get_or, Hart, hart_accessed, hart_asked, hart_at, hart_change, hart_fenced, hart_hit, hart_refusal, hart_replied, hart_rule, hart_served, hart_switched, hart_walked, HartEvent, HartRefusal, HartSpec, HartsState, held_leaves, holds-meets, holds_frames, In, inl, inr, Insert, InSets, is_equal, is_full, IsFree, IsHart, IsHartSpec, IsHistory, IsKept, IsOfOlder, kept_leaves, Kind, Leaf, leaf_at_page, length, length-set, level_of, List, list_any, longest, mapping_changed, nat_lt, nat_tests, None, not, older, oldest, opening_hart, Option, own_served, owners, pages_of, Protect, refl, Relocate, Remove, Request, request_of, request_taken, rule, set, shared_row, Some, subst, suc, sym, table_made, table_walked, TableState, take, TlbArray, true, undone, unless-true, with_taken, ℕ}
 use Rattle.std.proofs.lemmas.List.{length-map}
 use Rattle.xl_list_lemmas.proofs.OnceLemmas.{own-number}
 use Rattle.xl_model.specs.declared.leaf.Reply.{Reply}
-use Rattle.xl_model_lemmas.proofs.FreshArrayLemmas.{filled-sets, filled-spec, opening-sets, purged-sets, touched-sets, touched-spec}
+use Rattle.xl_model.proofs.ArrayLemmas.{filled-spec, touched-spec}
+use Rattle.xl_model_lemmas.proofs.FreshArrayLemmas.{filled-sets, opening-sets, purged-sets, touched-sets}
+use Rattle.xl_model_lemmas.proofs.MappingLemmas.{found-In}
 use Rattle.xl_model_lemmas.proofs.PermLemmas.{perm-same}
 use Rattle.xl_model_lemmas.proofs.PoolLemmas.{no-leaf}
 use Rattle.xl_hart_laws.proofs.CommandLemmas.{change-made, change-none, full-none, IsAllowed, made-table, refused-true, room-none, rule-allows, rule-none, second-none}
@@ -153,10 +155,6 @@ module _ (s : HartsState) (kept : IsKept s) (c : Change) (allowed : IsAllowed s 
   alone-changed =
       let m = older-mapping (shared_row s.spec) 0 s.requests s.table.leaves kept.history in
       alone-by c refl _ (owners-after (shared_row s.spec) frame s.requests s.table.leaves c m allowed.sound)
-
-found-In : (space page : ℕ) (leaves : List Leaf) (y : Leaf) → leaf_at_page space page leaves ≡ Some y → In y leaves
-unfolding leaf_at_page
-found-In space page leaves y h = find-In (covers space page) y leaves h
 
 -- where no queue is full, the requests are fewer than a queue holds
 pub not-full : (s : HartsState) → IsKept s → not (list_any (is_full s.spec) s.harts) ≡ true → length s.requests < s.spec.queue

@@ -9,7 +9,7 @@ pub use Rattle.xl_array.proofs.PageLemmas.{small_says}
 pub use Rattle.xl_array.specs.Arrays.{IsFit}
 pub use Rattle.xl_array.specs.Touches.{IsPageTouch, IsPageWord}
 pub use Rattle.xl_hart_laws.proofs.CoherenceLemmas.{coherent, opening-kept}
-pub use Rattle.xl_hart_laws.proofs.CommandLemmas.{and_first, change-made, change-none, first-none, full-none, IsAllowed, made-leaves, refused-true, room-none, rule-allows, rule-none}
+pub use Rattle.xl_hart_laws.proofs.CommandLemmas.{change-made, change-none, first-none, full-none, IsAllowed, made-leaves, refused-true, room-none, rule-allows, rule-none}
 pub use Rattle.xl_hart_laws.proofs.FramePoolLemmas.{pool-stays, pool-with, pool-without}
 pub use Rattle.xl_hart_laws.proofs.HistoryLemmas.{older-last, older-mapping}
 pub use Rattle.xl_hart_laws.proofs.KeptLemmas.{accessed-kept, changed-kept, not-full, request-kept, switched-kept}

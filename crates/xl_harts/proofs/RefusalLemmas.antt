@@ -1,5 +1,6 @@
 -- The refusals of harts, by the questions in turn, and what the table may be asked.
-use Rattle.xl_harts.proofs.Common.{◌%◌, ◌&&◌, ◌*◌, ◌+◌, ◌-◌, ◌<◌, ◌^◌, ◌∷◌, ◌≡◌, ◌≤◌, [], and_first, ap, arith, Bool, Chained, Change, change_of, change_rule, Cuckoo, Err, Event, first_refusal, frames_rule, hart_change, hart_refusal, hart_rule, HartSpec, HartsState, has-place, has_room, HasPlace, Insert, is_aligned, is_full, IsBlock, IsErrAnd, IsFit, IsHartSpec, IsLeafFor, IsLeafOf, IsPage, IsTable, kept_leaves, Leaf, leaf_at, leaf_nodes_missing, List, list_any, None, not, Ok, Option, or-first, or-second, Order, overlap_rule, page_limit, page_of, pages_of, Perm, place_rule, Protect, Radix, refl, Refusal, refusal_of, refused_unless, Relocate, Remove, Result, rule, Runs, Shape, shared_row, Some, spaces_of, subst, there_rule, true, ℕ}
+use Rattle.xl_harts.proofs.Common.{◌%◌, ◌*◌, ◌+◌, ◌-◌, ◌<◌, ◌^◌, ◌∷◌, ◌≡◌, ◌≤◌, [], ap, arith, Bool, Chained, Change, change_of, change_rule, Cuckoo, Err, Event, first_refusal, frames_rule, hart_change, hart_refusal, hart_rule, HartSpec, HartsState, has-place, has_room, HasPlace, Insert, is_aligned, is_full, IsBlock, IsErrAnd, IsFit, IsHartSpec, IsLeafFor, IsLeafOf, IsPage, IsTable, kept_leaves, Leaf, leaf_at, leaf_nodes_missing, List, list_any, None, not, Ok, Option, or-first, or-second, Order, overlap_rule, page_limit, page_of, pages_of, Perm, place_rule, Protect, Radix, refl, Refusal, refusal_of, refused_unless, Relocate, Remove, Result, rule, Runs, Shape, shared_row, Some, spaces_of, subst, there_rule, true, ℕ}
+use Rattle.std.specs.Cmp.{first_so}
 use Rattle.xl_model.specs.Frames.{lowest}
 use Rattle.xl_model_lemmas.proofs.PlaceLemmas.{page-block, pages-some}
 use Rattle.xl_hart_model.specs.declared.hart.HartRefusal.TheVariants as why
@@ -197,7 +198,7 @@ pub map-placed : (s : HartsState) (space va : ℕ) (o : Order) (perm : Perm) →
 unfolding hart_rule
 map-placed s space va o perm ruled =
     let place : HasPlace (shared_row s.spec) space o (va ∷ []) = has-place (shared_row s.spec) space o (va ∷ []) (or-first _ _ ruled) in
-    record { space_in = place.space_in; aligned = and_first _ _ place.all_aligned; free = or-first _ _ (or-second _ _ ruled) }
+    record { space_in = place.space_in; aligned = first_so _ _ place.all_aligned; free = or-first _ _ (or-second _ _ ruled) }
 
 -- a leaf in the frames from 0 on
 pub leaf-in-block : (shape : Shape) (space first : ℕ) (o : Order) (perm : Perm) → IsBlock shape space first o → IsLeafFor shape (record { space = space; first = first; order = o; frame = 0; perm = perm })

@@ -7,6 +7,7 @@ use Rattle.xl_model.specs.declared.perm.Perm.{Perm}
 use Rattle.xl_model.specs.Addresses.{level_of, order_at}
 use Rattle.xl_model.specs.LeafWords.{perm_code, perm_by, perm_at}
 use Rattle.xl_model.specs.Words.{bit_if}
+unfoldable use Rattle.xl_model.specs.Words.{leaf_word}
 use Rattle.xl_model.proofs.PermLemmas.{same-bits}
 
 -- an order and its level
@@ -59,3 +60,8 @@ perm-back frame q =
 pub frame-back : (frame : ℕ) (q : Perm) → (frame * 16 + perm_code q) / 16 ≡ frame
 unfolding perm_code
 frame-back frame q = (bits frame q.r q.w q.x q.u).4
+
+-- a leaf's word isn't 0
+pub word-some : (frame : ℕ) (perm : Perm) → 0 < leaf_word frame perm
+unfolding leaf_word
+word-some frame perm = omega arith

@@ -67,7 +67,8 @@ pub use Rattle.xl_model.specs.declared.work.Work.{Work}
 pub use Rattle.xl_model_lemmas.proofs.ChangeLemmas.{changed-In, first-low, first-small, other-key, place-small, stays-changed}
 pub use Rattle.xl_model_lemmas.proofs.LimitLemmas.{limits-changed, limits-fenced, limits-walked, loads-by, shape-same, widened-same}
 pub use Rattle.xl_model_lemmas.proofs.MappingLemmas.{named-In, named-is}
-pub use Rattle.xl_model_lemmas.proofs.PlaceLemmas.{level-low, named-order, named-space, order-same, orders-same}
+pub use Rattle.xl_model.proofs.OrderLemmas.{order-same, orders-same}
+pub use Rattle.xl_model_lemmas.proofs.PlaceLemmas.{level-low, named-order, named-space}
 pub use Rattle.xl_model_lemmas.proofs.PlacingLemmas.{entries-same, forced-entries, insertion-adds, insertion-by, PlacedBy, placing-by, placing-keeps, set-length, Succeeded}
 pub use Rattle.xl_model_lemmas.proofs.RuleLemmas.{kept-changed, kept-sound, sound-of}
 pub use Rattle.xl_model_lemmas.proofs.WayTallyLemmas.{tally-none, tally-same, tally-with_entry, ways-reworded, ways-without}

@@ -5,6 +5,7 @@ use Rattle.std.proofs.lemmas.List.{length-map}
 use Rattle.xl_list_lemmas.proofs.TallyLemmas.{tally-any, tally-each, tally-most, tally-only}
 use Rattle.xl_model_lemmas.proofs.InsertionLemmas.{same-place, without-In, without-other}
 use Rattle.xl_model_lemmas.proofs.LeafTallyLemmas.{sorted-once, tally-less, tally-with}
+use Rattle.xl_model_lemmas.proofs.WayTallyLemmas.{opening-length}
 use Rattle.xl_model_laws.proofs.AfterLemmas.{cuckoo-after}
 use Rattle.xl_model_laws.proofs.CapLemmas.{refused-same}
 use Rattle.xl_model_laws.proofs.PlacingLemmas.{insertion-count, lists-length}
@@ -374,10 +375,6 @@ caps-counted (Some leaf) leaves (Chained group buckets entries tags) caps h = tt
 caps-counted (Some leaf) leaves (Cuckoo rules ws) caps h = refused-counted rules ws leaf leaves caps h
 caps-counted (Some leaf) leaves (Runs ranges) caps h = tt
 
-opening-count : (start cap number n : ℕ) → length (opening_ways start cap number n) ≡ n
-opening-count start cap number zero = refl
-opening-count start cap number (suc n) = ap suc (opening-count start cap (number + 1) n)
-
 opening-none : (p : Entry → Bool) (start cap number n : ℕ) → tally p (entries_in (opening_ways start cap number n)) ≡ 0
 unfolding opening_way
 opening-none p start cap number zero = refl
@@ -405,9 +402,9 @@ opening-counted levels spaces (table.Cuckoo ways start cap threshold kick_limit 
         two false b d e t k = absurd (cc)
 
     some-ways : (o : Order) → 0 < length (ways_of o (record { k4 = opening_ways start cap 0 ways; m2 = opening_ways start cap 0 ways; g1 = opening_ways start cap 0 ways }))
-    some-ways order.K4 = let e = opening-count start cap 0 ways in let f = enough in omega arith
-    some-ways order.M2 = let e = opening-count start cap 0 ways in let f = enough in omega arith
-    some-ways order.G1 = let e = opening-count start cap 0 ways in let f = enough in omega arith
+    some-ways order.K4 = let e = opening-length start cap 0 ways in let f = enough in omega arith
+    some-ways order.M2 = let e = opening-length start cap 0 ways in let f = enough in omega arith
+    some-ways order.G1 = let e = opening-length start cap 0 ways in let f = enough in omega arith
 
     none-yet : (o : Order) (p : Entry → Bool) → entries_by o (record { k4 = opening_ways start cap 0 ways; m2 = opening_ways start cap 0 ways; g1 = opening_ways start cap 0 ways }) p ≡ 0
     none-yet order.K4 p = opening-none p start cap 0 ways

@@ -144,16 +144,3 @@ opening-held leaf (spec ∷ specs) (inr i) = opening-held leaf specs i
 pub opening-fresh : (specs : List TlbSpec) (leaves : List Leaf) → ArraysFresh (opening_arrays specs) leaves
 unfolding opening_arrays
 opening-fresh specs leaves leaf h = absurd (opening-held leaf specs h)
-
--- one hart
-pub touched-spec : (space page : ℕ) (leaf : Leaf) (a : TlbArray) → (array_touched space page leaf a).spec ≡ a.spec
-unfolding array_touched
-touched-spec space page leaf a = refl
-
-pub filled-spec : (leaf : Leaf) (a : TlbArray) → (array_filled leaf a).spec ≡ a.spec
-unfolding array_filled
-filled-spec leaf a = go (takes_order a.spec leaf.order)
-  where
-    go : (b : Bool) → (filled_where b leaf a).spec ≡ a.spec
-    go true = refl
-    go false = refl

@@ -3,7 +3,7 @@ use Rattle.xl_model_lemmas.proofs.Common.{◌&&◌, ◌*◌, ◌+◌, ◌/◌, �
 use Rattle.xl_model.proofs.PermLemmas.{bits-same}
 use Rattle.xl_model.specs.Caches.{Cached, has_changed, without_items}
 use Rattle.xl_model.specs.Walks.{is_page_section, section_after, section_of_page}
-use Rattle.xl_model_lemmas.proofs.PlaceLemmas.{order-same}
+use Rattle.xl_model.proofs.OrderLemmas.{order-same}
 use Rattle.xl_model.specs.declared.address.Order.TheVariants as order
 
 ways-same : (a b : Option ℕ) → same_way a b ≡ true → a ≡ b

@@ -1,5 +1,5 @@
 -- What every mapping keeps, at each of the four changes of a leaf.
-use Rattle.xl_model_lemmas.proofs.Common.{◌*◌, ◌+◌, ◌^◌, ◌∙◌, ◌≡◌, ◌≤◌, any-false, ap, at_page, Bool, changed, false, find-In, find-passes, holds_frames, In, inl, inr, Insert, is_leaf, IsFreeOf as IsFree, IsLeafOf, IsMapping, Leaf, leaf_key, leaf_named, levels_of, List, meets_any, meets_block, None, Option, Order, pages_of, Perm, Protect, refl, Relocate, Remove, Row, Some, subst, sym, true, with_leaf, with_new, with_perm, without_leaf, without_old, ℕ}
+use Rattle.xl_model_lemmas.proofs.Common.{◌*◌, ◌+◌, ◌^◌, ◌∙◌, ◌≡◌, ◌≤◌, any-false, ap, at_page, Bool, changed, covers, false, find-In, find-passes, holds_frames, In, inl, inr, Insert, is_leaf, IsFreeOf as IsFree, IsLeafOf, IsMapping, Leaf, leaf_at_page, leaf_key, leaf_named, levels_of, List, meets_any, meets_block, None, Option, Order, pages_of, Perm, Protect, refl, Relocate, Remove, Row, Some, subst, sym, true, with_leaf, with_new, with_perm, without_leaf, without_old, ℕ}
 use Rattle.xl_model_lemmas.proofs.InsertionLemmas.{sorted-with, sorted-without, with-In, without-In, without-other}
 use Rattle.xl_model_lemmas.proofs.PlaceLemmas.{covers-meets, frame-shared, holds-meets, meets-covers, named-order, named-space}
 
@@ -136,3 +136,8 @@ kept-relocated row space first to o xs m fits aligned apart =
     relocated-by row space to o (leaf_named space first o xs) xs m (λ x h. named-In space first o x xs h)
     (λ x h. (named-space space first o x (named-is space first o x xs h), named-order space first o x (named-is space first o x xs h)))
     fits aligned apart
+
+-- the leaf at a page is one of the leaves
+pub found-In : (space page : ℕ) (leaves : List Leaf) (x : Leaf) → leaf_at_page space page leaves ≡ Some x → In x leaves
+unfolding leaf_at_page
+found-In space page leaves x e = find-In (covers space page) x leaves e

@@ -1,5 +1,6 @@
 -- The orders of leaves, and places in pages and frames that leaves share or a command names.
-use Rattle.xl_model_lemmas.proofs.Common.{◌%◌, ◌*◌, ◌+◌, ◌/◌, ◌<◌, ◌^◌, ◌≡◌, ◌≤◌, arith, covers, eq-eqb, false, holds_frames, is_aligned, is_leaf, Leaf, leaf_key, level_of, levels_of, meets_block, Mode, nat_le, nat_tests, Order, page_of, pages_of, refl, same_order, true, ℕ}
+use Rattle.xl_model_lemmas.proofs.Common.{◌%◌, ◌*◌, ◌+◌, ◌/◌, ◌<◌, ◌^◌, ◌≡◌, ◌≤◌, arith, covers, false, holds_frames, is_aligned, is_leaf, Leaf, leaf_key, level_of, levels_of, meets_block, Mode, nat_le, nat_tests, Order, page_of, pages_of, refl, true, ℕ}
+use Rattle.xl_model.proofs.OrderLemmas.{same-level}
 use Rattle.xl_model.specs.declared.address.Mode.TheVariants as mode
 use Rattle.xl_model.specs.declared.address.Order.TheVariants as order
 
@@ -12,24 +13,6 @@ pub pages-some : (o : Order) → 0 < pages_of o
 pages-some order.K4 = omega arith
 pages-some order.M2 = omega arith
 pages-some order.G1 = omega arith
-
--- an order is its level
-pub same-level : (a b : Order) → level_of a ≡ level_of b → a ≡ b
-same-level order.K4 order.K4 h = refl
-same-level order.K4 order.M2 h = absurd (omega arith)
-same-level order.K4 order.G1 h = absurd (omega arith)
-same-level order.M2 order.K4 h = absurd (omega arith)
-same-level order.M2 order.M2 h = refl
-same-level order.M2 order.G1 h = absurd (omega arith)
-same-level order.G1 order.K4 h = absurd (omega arith)
-same-level order.G1 order.M2 h = absurd (omega arith)
-same-level order.G1 order.G1 h = refl
-
-pub orders-same : (a b : Order) → same_order a b ≡ true → a ≡ b
-orders-same a b h = same-level a b (grind (arith, nat_tests))
-
-pub order-same : (o : Order) → same_order o o ≡ true
-order-same o = eq-eqb _ _ refl
 
 -- a leaf covers its first page
 pub first-covered : (x : Leaf) → covers x.space x.first x ≡ true

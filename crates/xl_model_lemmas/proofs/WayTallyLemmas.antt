@@ -1,6 +1,12 @@
--- How many entries of ways pass a test: with an entry more, without one, and with other words. For
--- cuckoo tables.
+-- How many ways a table opens with, and how many entries of ways pass a test: with an entry more,
+-- without one, and with other words. For cuckoo tables.
 use Rattle.xl_model_lemmas.proofs.Common.{◌&&◌, ◌+◌, ◌==◌, ◌∷◌, ◌≡◌, ◌≤◌, [], arith, Bool, cond, entries_in, Entry, false, find, has_key, List, map, nat_lt, None, one_if, refl, reworded, Some, tally, tally-append, tally-map, true, WayShape, with_entry, with_word, without_entry, without_key, ℕ}
+use Rattle.std.proofs.Common.{ap, length, suc, zero}
+use Rattle.xl_model.specs.Shapes.{opening_ways}
+
+pub opening-length : (start most number n : ℕ) → length (opening_ways start most number n) ≡ n
+opening-length start most number zero = refl
+opening-length start most number (suc n) = ap suc (opening-length start most (number + 1) n)
 
 pub tally-same : (p q : Entry → Bool) (xs : List Entry) → ((x : Entry) → p x ≡ q x) → tally p xs ≡ tally q xs
 tally-same p q [] h = refl

@@ -1,5 +1,6 @@
 -- What the guest keeps, and what its leaves are.
-use Rattle.xl_nested.proofs.Common.{◌++◌, ◌+◌, ◌-◌, ◌<◌, ◌^◌, ◌∙◌, ◌∷◌, ◌≡◌, ◌≤◌, [], ap, arith, brought, Chained, Change, changed, changed-In, covers, Cuckoo, Entry, find-In, find-passes, guest_map, In, inl, inr, IsAt, IsBlock, IsEntry, IsFor, IsGuest, IsPage, IsPlace, IsReached, IsStage, kept_node, Leaf, leaf_at_page, LeavesReach, length, length-append, length-map, length-replicate, level_of, List, narrowed, nat_tests, Node, nodes_in, None, number-some, number_of, only_needed, opening_nodes, opening_stage, Option, Order, page_limit, pages-some, pages_of, Perm, put_first, Radix, refl, Remove, replicate, roots, Runs, Shape, shape_after, small_leaf, Some, spaces_of, Stage, stage_after, subst, suc, sym, true, unless_there, up, widened, with_leaf_nodes, with_node, with_path, zero, ℕ}
+use Rattle.xl_nested.proofs.Common.{◌++◌, ◌+◌, ◌-◌, ◌<◌, ◌^◌, ◌∙◌, ◌∷◌, ◌≡◌, ◌≤◌, [], ap, arith, brought, Chained, Change, changed, changed-In, covers, Cuckoo, Entry, find-passes, guest_map, inl, inr, IsAt, IsBlock, IsEntry, IsFor, IsGuest, IsPage, IsPlace, IsReached, IsStage, kept_node, Leaf, leaf_at_page, LeavesReach, length, length-append, length-map, length-replicate, level_of, List, narrowed, nat_tests, Node, nodes_in, None, number-some, number_of, only_needed, opening_nodes, opening_stage, Option, Order, page_limit, pages-some, pages_of, Perm, put_first, Radix, refl, Remove, replicate, roots, Runs, Shape, shape_after, small_leaf, Some, spaces_of, Stage, stage_after, subst, suc, sym, true, unless_there, up, widened, with_leaf_nodes, with_node, with_path, zero, ℕ}
+use Rattle.xl_model_lemmas.proofs.MappingLemmas.{found-In}
 use Rattle.xl_radix.proofs.OpeningLemmas.{length-roots}
 use Rattle.xl_nested.proofs.ApartLemmas.{left-In}
 use Rattle.xl_nested.specs.declared.stage.Entry.TheVariants as entry
@@ -132,11 +133,7 @@ guest-unmapped base page o stage is =
       low_frames = λ x i. is.low_frames x (left-In 0 page o x stage.leaves i);
     }
 
--- the leaf at a page is one of the leaves, and covers the page
-pub found-In : (space page : ℕ) (leaves : List Leaf) (x : Leaf) → leaf_at_page space page leaves ≡ Some x → In x leaves
-unfolding leaf_at_page
-found-In space page leaves x e = find-In (covers space page) x leaves e
-
+-- the leaf at a page covers it
 pub found-covers : (space page : ℕ) (leaves : List Leaf) (x : Leaf) → leaf_at_page space page leaves ≡ Some x → covers space page x ≡ true
 unfolding leaf_at_page
 found-covers space page leaves x e = find-passes (covers space page) x leaves e

@@ -8,7 +8,8 @@ use Rattle.xl_model_lemmas.specs.Lowest.{IsFree as IsFreeOf}
 use Rattle.xl_model_lemmas.specs.Mappings.{IsLeafOf, IsMapping, IsNewLeaf}
 use Rattle.xl_model_lemmas.specs.Pools.{IsPoolOf}
 use Rattle.xl_nested.proofs.CacheLemmas.{leaf-found, purged-as}
-use Rattle.xl_nested.proofs.GuestLemmas.{block-of, covers-for, found-covers, found-In, opening-stage, stage-stays}
+use Rattle.xl_model_lemmas.proofs.MappingLemmas.{found-In}
+use Rattle.xl_nested.proofs.GuestLemmas.{block-of, covers-for, found-covers, opening-stage, stage-stays}
 use Rattle.xl_model.specs.declared.address.Order.TheVariants as order
 use Rattle.xl_nested_model.specs.declared.nest.NestRefusal.TheVariants as refused
 

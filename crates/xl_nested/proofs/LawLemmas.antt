@@ -1,7 +1,8 @@
 -- The laws of a reply.
 use Rattle.xl_nested.proofs.Common.{if◌then◌else◌, ◌+◌, ◌-◌, ◌<◌, ◌∙◌, ◌∷◌, ◌≡◌, ◌≤◌, [], allows, along, ap, arith, Bool, covers, false, flat, frame_of, Guest, guest_path, guest_reply, host_leaf, host_page, host_reply, host_space, is_canonical, is_loadable, Kind, Leaf, leaf_at_page, List, list_all, loaded_where, nat_tests, nest_accessed, nest_outcome, nest_rule, nested, NestEvent, NestReply, NestState, None, Option, page_of, pages_of, refl, reply_by, reply_if_canonical, reply_if_loadable, reply_where, Shape, Some, stage2, subst, sym, translated, true, walked_if, with_last, ℕ}
 use Rattle.xl_model.specs.declared.leaf.Reply.{Reply}
-use Rattle.xl_nested.proofs.GuestLemmas.{found-covers, found-In}
+use Rattle.xl_model_lemmas.proofs.MappingLemmas.{found-In}
+use Rattle.xl_nested.proofs.GuestLemmas.{found-covers}
 use Rattle.xl_nested.proofs.WalkLemmas.{translated-leaves}
 use Rattle.xl_nested.specs.Laws.{composed, EventLaws, HaveSameTables, IsFrameOf, IsPlaced, ReplyLaws}
 use Rattle.xl_model.specs.declared.address.Kind.TheVariants as kinds

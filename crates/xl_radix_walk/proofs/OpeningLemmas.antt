@@ -1,20 +1,17 @@
 -- A row at its opening.
-use Rattle.xl_radix_walk.proofs.Common.{◌&&◌, ◌+◌, ◌-◌, ◌<◌, ◌∷◌, ◌≡◌, ◌≤◌, [], ap, AreNumbered, arith, Bool, Cached, caches_in, drop, empty_cache, empty_caches, false, IsRow, Item, length, length-map, List, list_all, map, Node, Numbered, opening_caches, opening_nodes, opening_shape, opening_table, Option, refl, row_of, row_table, suc, Table, take, true, zero, ℕ}
-
-both : (b c : Bool) → (b && c) ≡ true → (b ≡ true) × (c ≡ true)
-both true c h = (refl, h)
-both false c h = cc
+use Rattle.xl_radix_walk.proofs.Common.{◌+◌, ◌-◌, ◌∷◌, ◌≡◌, ◌≤◌, [], ap, AreNumbered, arith, Bool, Cached, caches_in, drop, empty_cache, empty_caches, IsRow, Item, length, length-map, List, list_all, map, Node, Numbered, opening_caches, opening_nodes, opening_shape, opening_table, Option, refl, row_of, row_table, suc, Table, take, true, zero, ℕ}
+use Rattle.xl_model.proofs.BoolLemmas.{both-so}
 
 pub all-taken : (p : ℕ → Bool) (n : ℕ) (xs : List ℕ) → list_all p xs ≡ true → list_all p (take n xs) ≡ true
 all-taken p zero [] h = refl
 all-taken p zero (x ∷ xs) h = refl
 all-taken p (suc n) [] h = refl
-all-taken p (suc n) (x ∷ xs) h = let b = both (p x) (list_all p xs) h in rw (b.0, all-taken p n xs b.1) refl
+all-taken p (suc n) (x ∷ xs) h = let b = both-so (p x) (list_all p xs) h in rw (b.0, all-taken p n xs b.1) refl
 
 pub all-dropped : (p : ℕ → Bool) (n : ℕ) (xs : List ℕ) → list_all p xs ≡ true → list_all p (drop n xs) ≡ true
 all-dropped p zero xs h = h
 all-dropped p (suc n) [] h = refl
-all-dropped p (suc n) (x ∷ xs) h = all-dropped p n xs (both (p x) (list_all p xs) h).1
+all-dropped p (suc n) (x ∷ xs) h = all-dropped p n xs (both-so (p x) (list_all p xs) h).1
 
 empty-in : (level n : ℕ) (ws : List ℕ) → caches_in level (map empty_cache (take n ws)) ≡ empty_caches n ws
 empty-in level zero [] = refl

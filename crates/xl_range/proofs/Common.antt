@@ -28,7 +28,8 @@ pub use Rattle.xl_model.specs.declared.leaf.Leaf.{Leaf}
 pub use Rattle.xl_model.specs.declared.leaf.Range.{Range}
 pub use Rattle.xl_model.specs.declared.perm.Perm.{Perm}
 pub use Rattle.xl_model_lemmas.proofs.MappingLemmas.{named-In, named-is}
-pub use Rattle.xl_model_lemmas.proofs.PlaceLemmas.{named-first, named-order, named-space, order-same, orders-same, pages-some}
+pub use Rattle.xl_model.proofs.OrderLemmas.{order-same, orders-same}
+pub use Rattle.xl_model_lemmas.proofs.PlaceLemmas.{named-first, named-order, named-space, pages-some}
 pub use Rattle.xl_treap.proofs.KeptLemmas.{resized-length, with-length}
 pub use Rattle.xl_treap.specs.Treaps.{first_from, has_key, IsApart, IsFit, keeping, key_at, last_below, last_or, of_space, resized, TreapView, with_range, without_range}
 pub use Rattle.xl_range.specs.Cuts.{IsInside, kept_cut, kept_following}

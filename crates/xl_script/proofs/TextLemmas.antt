@@ -1,5 +1,6 @@
 -- Laws of lines and words.
 use Rattle.xl_script.proofs.Common.{if◌then◌else◌, ◌+◌, ◌-◌, ◌<◌, ◌==◌, ◌∙◌, ◌∷◌, ◌≡◌, ◌≤◌, [], add-one, add-zero, ap, ap₂, arith, Bool, cond, drop, drop-drop, drop_all, eqb-true, false, get_or, get_or-drop, IsFirstByte, length, length-drop, length-take, List, map, ne_eqb, None, not, one-add, onto, Option, pieces, position, position_or_len, prefix_len-le-length, prefix_len_is, prefix_len_stops, refl, script_lines, slice_range, Some, suc, sym, take, take-take, to_newline, true, up_to_comment, words_of, ℕ}
+use Rattle.xl_model.proofs.BoolLemmas.{not-so}
 use Rattle.std.proofs.lemmas.Bool.Decides.{nat_tests}
 use Rattle.xl_text.specs.Texts.{in_first, is_blank, lines_of, without_return}
 
@@ -152,18 +153,13 @@ module _ (text : List ℕ) (at n : ℕ) (front : List ℕ) where
       lines_first (drop at text) n (omega (arith, length-drop at text)) value
       ∙ ap₂ (λ a b. a ∷ script_lines b) (fronts h) tail
 
--- what isn't true is not
-not-true : (b : Bool) → (b ≡ true → ⊥) → not b ≡ true
-not-true true h = absurd (h refl)
-not-true false h = refl
-
 -- the first place that a search finds is the first place
 pub first_place : (test : ℕ → Bool) (text : List ℕ) (found : Option ℕ) → IsFirstByte test text found → found ≡ position test text
 first_place test text None nowhere =
     let none : position_or_len test text ≡ length text =
-    prefix_len_is (λ b. not (test b)) text (length text) 0 (omega arith) (λ k less. not-true (test (get_or text k 0)) (nowhere k (omega arith) less)) (λ less. absurd (omega (arith, less))) in
+    prefix_len_is (λ b. not (test b)) text (length text) 0 (omega arith) (λ k less. not-so (test (get_or text k 0)) (nowhere k (omega arith) less)) (λ less. absurd (omega (arith, less))) in
     grind (arith, nat_tests, none)
 first_place test text (Some k) here =
     let first : position_or_len test text ≡ k =
-    prefix_len_is (λ b. not (test b)) text k 0 (omega (arith, here.0.high)) (λ i less. not-true (test (get_or text i 0)) (here.0.before i (omega arith) less)) (λ less. ap not here.1) in
+    prefix_len_is (λ b. not (test b)) text k 0 (omega (arith, here.0.high)) (λ i less. not-so (test (get_or text i 0)) (here.0.before i (omega arith) less)) (λ less. ap not here.1) in
     grind (arith, nat_tests, first, here.0.high)

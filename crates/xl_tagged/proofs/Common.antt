@@ -38,7 +38,8 @@ pub use Rattle.xl_model.specs.declared.work.Refused.{Refused}
 pub use Rattle.xl_model.specs.declared.work.Work.{Work}
 pub use Rattle.xl_model_lemmas.proofs.InsertionLemmas.{In-with, In-without, same-place, sorted-with, sorted-without, stays-with, with-In, without-In, without-other}
 pub use Rattle.xl_model_lemmas.proofs.KeptLemmas.{mapping-In, mapping-sorted, meets-sym, place-meets}
-pub use Rattle.xl_model_lemmas.proofs.PlaceLemmas.{aligned-frame, covers-meets, level-low, named-first, named-key, named-order, named-space, order-same, orders-same, pages-some, same-level}
+pub use Rattle.xl_model.proofs.OrderLemmas.{order-same, orders-same, same-level}
+pub use Rattle.xl_model_lemmas.proofs.PlaceLemmas.{aligned-frame, covers-meets, level-low, named-first, named-key, named-order, named-space, pages-some}
 pub use Rattle.xl_model_lemmas.proofs.SortedLemmas.{same-sorted, with-without}
 pub use Rattle.xl_model_lemmas.specs.Entries.{or_leaf, with_some}
 unfoldable pub use Rattle.xl_model_lemmas.specs.Kept.{mapping_of}

@@ -3,7 +3,7 @@ pub use Rattle.std.proofs.Common.{◌%◌, ◌&&◌, ◌*◌, ◌++◌, ◌+◌,
 pub use Rattle.std.proofs.lemmas.Bool.Decides.{nat_tests}
 pub use Rattle.std.proofs.lemmas.List.{append-nil, drop_all, get_or-set_other, length-map, nil_from_length, take_all}
 pub use Rattle.std.proofs.lemmas.List.Sums.{sum_by-cons}
-pub use Rattle.xl_array.proofs.SpecLemmas.{spec_filled, spec_touched}
+pub use Rattle.xl_model.proofs.ArrayLemmas.{filled-spec, touched-spec}
 pub use Rattle.xl_array.proofs.TouchLemmas.{array_found, front_touch, hit_front}
 pub use Rattle.xl_array.specs.Hits.{leaf_hit}
 pub use Rattle.xl_array.specs.Touches.{IsFrontHit, IsPageTouch, IsPageWord, IsTouch, LacksSmall}

@@ -1,5 +1,5 @@
 -- A look at arrays in line, one after another, as a look at all.
-use Rattle.xl_tlb.proofs.Common.{◌&&◌, ◌+◌, ◌<◌, ◌^◌, ◌∙◌, ◌∷◌, ◌≡◌, [], Answer, answer_of, ap, arith, array_filled, array_found, array_hit, array_touched, arrays_filled, arrays_without, asked, Bool, cond, count_by, counted, false, filled_below, filled_for, fills_array, hits_at, is_purged, is_some, IsFill, IsKept, IsKnownWord, IsLooked, IsNowhere, IsPageTouch, IsPageWord, IsPairLook, IsTouch, IsWord, Kind, Leaf, leaf_replied, List, looked_arrays, Lookup, map, misses_at, nat_le, nat_lt, nat_tests, None, NoneBelow, not, one_more_where, Option, plus, Purge, Reach, reaches_leaf, refl, Replied, replied, Seen, serves_kind, small_leaf, Some, spec_filled, spec_of, spec_touched, sym, takes_leaf, takes_order, tlb_fenced, tlb_filled, tlb_looked, tlb_of, tlb_purged, TlbArray, TlbState, true, where_taken, ℕ}
+use Rattle.xl_tlb.proofs.Common.{◌&&◌, ◌+◌, ◌<◌, ◌^◌, ◌∙◌, ◌∷◌, ◌≡◌, [], Answer, answer_of, ap, arith, array_filled, array_found, array_hit, array_touched, arrays_filled, arrays_without, asked, Bool, cond, count_by, counted, false, filled_below, filled_for, fills_array, hits_at, is_purged, is_some, IsFill, IsKept, IsKnownWord, IsLooked, IsNowhere, IsPageTouch, IsPageWord, IsPairLook, IsTouch, IsWord, Kind, Leaf, leaf_replied, List, looked_arrays, Lookup, map, misses_at, nat_le, nat_lt, nat_tests, None, NoneBelow, not, one_more_where, Option, plus, Purge, Reach, reaches_leaf, refl, Replied, replied, Seen, serves_kind, small_leaf, Some, filled-spec, spec_of, touched-spec, sym, takes_leaf, takes_order, tlb_fenced, tlb_filled, tlb_looked, tlb_of, tlb_purged, TlbArray, TlbState, true, where_taken, ℕ}
 use Rattle.xl_array.proofs.PageLemmas.{small_says}
 use Rattle.xl_tlb.proofs.LevelLemmas.{and_false, first_arrays, first_replied, more_arrays, more_hits, more_misses, more_replied, with_one}
 use Rattle.xl_tlb.proofs.StayLemmas.{look_none as nothing_moves}
@@ -256,14 +256,14 @@ fenced_specs to old new e = ap (λ (t : TlbState). map spec_of t.arrays) e ∙ s
 
 -- a touch and a look in two arrays leave the specs
 pub touch_spec : (space page word : ℕ) (a new : TlbArray) → IsTouch space page word a new → new.spec ≡ a.spec
-touch_spec space page word a new t = ap spec_of t.moved ∙ spec_touched space page (small_leaf space page word) a
+touch_spec space page word a new t = ap spec_of t.moved ∙ touched-spec space page (small_leaf space page word) a
 
 pub large_spec : (space page word : ℕ) (a new : TlbArray) → IsPageTouch space page word a new → new.spec ≡ a.spec
-large_spec space page word a new t = ap spec_of t.moved ∙ spec_touched space page t.leaf a
+large_spec space page word a new t = ap spec_of t.moved ∙ touched-spec space page t.leaf a
 
 pub pair_specs : (saw : Seen) (space page : ℕ) (a b new after : TlbArray) → IsPairLook space page saw a b new after → (new.spec ≡ a.spec) × (after.spec ≡ b.spec)
 pair_specs (seen.First word) space page a b new after is = (touch_spec space page word a new is.0, ap spec_of is.1)
-pair_specs (seen.Second word) space page a b new after is = (ap spec_of is.0.1 ∙ spec_filled (small_leaf space page word) a, touch_spec space page word b after is.0.0.1)
+pair_specs (seen.Second word) space page a b new after is = (ap spec_of is.0.1 ∙ filled-spec (small_leaf space page word) a, touch_spec space page word b after is.0.0.1)
 pair_specs (seen.Large word) space page a b new after is = (large_spec space page word a new is.0, ap spec_of is.1)
 pair_specs seen.Nowhere space page a b new after is = (ap spec_of is.1.0, ap spec_of is.1.1)
 pair_specs seen.Unknown space page a b new after is = (ap spec_of is.1.0, ap spec_of is.1.1)

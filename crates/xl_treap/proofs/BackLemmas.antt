@@ -1,5 +1,6 @@
 -- The words of a treap say what it holds.
 use Rattle.xl_treap.proofs.Common.{◌&&◌, ◌*◌, ◌++◌, ◌+◌, ◌-◌, ◌/◌, ◌<◌, ◌^◌, ◌||◌, ◌∙◌, ◌∷◌, ◌≡◌, ◌≤◌, [], ap, arith, Bin, Bool, end_key, end_of, ended, examined, false, find, found, get_or-replicate, holds_page, In, In-append, In-right, inl, InOrder, inr, is_above, is_between, is_read, IsEmpty, IsHeap, IsKept, IsReached, IsTreap, key_at, length, length-append, length-replicate, List, list_all, nat_tests, not, Once, once-more, Option, pick-no, pick-yes, Range, range_key, range_of_link, range_reads, ranges, reads_among, refl, replicate, search_from, Searched, seen_in, slice_index, subst, suc, sym, Tip, Tree, tree_at, true, upto, WordsReadBack, zero, ℕ}
+use Rattle.xl_model.proofs.BoolLemmas.{and-true}
 use Rattle.xl_model.specs.Base.{one_if}
 use Rattle.xl_treap.proofs.AboveLemmas.{above-not, over-In}
 use Rattle.xl_treap.proofs.FoundLemmas.{found-is, seek-tree}
@@ -27,10 +28,6 @@ all-append p (x ∷ xs) ys = elim (p x) as (λ b. (b && list_all p (xs ++ ys)) �
   | true ↦ all-append p xs ys
   | false ↦ refl
 ]
-
-and-true : (b : Bool) → (b && true) ≡ b
-and-true true = refl
-and-true false = refl
 
 reads-append : (A : List Range) (k : ℕ) (xs ys : List Range) → reads_among A k (xs ++ ys) ≡ reads_among A k xs + reads_among A k ys
 reads-append A k [] ys = let e : reads_among A k ys ≡ 0 + reads_among A k ys = omega arith in e

@@ -1,9 +1,9 @@
 use Rattle.xl_cuckoo_walk.proofs.Common.{◌%◌, ◌&&◌, ◌*◌, ◌++◌, ◌+◌, ◌/◌, ◌<◌, ◌^◌, ◌∙◌, ◌≡◌, ◌≤◌, ap, AreCounts, AreFresh, AreHeld, AtCap, Bool, by_size, counts_of, CountState, Cuckoo, CuckooRules, CuckooState, CuckooWays, Displaced, entries-same, entries_in, entries_of, Entry, Err, false, has_fit, has_room, HoldsLeaves, In, Insert, inserted, IsCapped, IsChange, IsEntered, IsFit, IsNoted, IsPut, IsRefused, IsRoomy, IsRow, Large, Leaf, leaf_entry, leaf_word, leaves_of_ways, length, level_of, List, lit<, loads_in, MadeWordsReadBack, map, meets_any, Middle, Moves, nat_le, no_moves, None, once-same, One, Option, Order, order_at, order_of, order_tags, page_key, parts_by, refl, row_state, RowParts, rules_in, rules_of, SameEntries, section-refused, section_count, sections_in, SectionsFresh, Size, size_in, SizeParts, Some, StaysBeside, subst, sym, table_of, TableState, tags_in, true, value_of, values_in, ways_at, ways_in, ways_of, WayShape, with_counts, with_leaf, with_put_in, with_table, with_ways, word_list, word_of, work_of, ℕ}
-use Rattle.xl_cuckoo_walk.proofs.BitLemmas.{and-first, and-second}
+use Rattle.std.specs.Cmp.{first_so, second_so}
 use Rattle.xl_cuckoo_walk.proofs.HoldLemmas.{beside-now, by-rules, entered, entry-key, fit-leaf, free-key, free-now, holds-changed, holds-row, IsTableFor, room-leaf, roomy-leaf}
 use Rattle.xl_cuckoo_walk.proofs.IndexLemmas.{each-size, each-way, size-stays, ways-table, with-ways-in}
 use Rattle.xl_cuckoo_walk.proofs.RowLemmas.{leaves-known}
-use Rattle.xl_cuckoo_walk.proofs.StepLemmas.{word-some}
+use Rattle.xl_model.proofs.CodeLemmas.{word-some}
 use Rattle.xl_cuckoo_walk.proofs.VerdictLemmas.{no-place, no-space, room-both, state_by}
 use Rattle.xl_model.specs.declared.address.Order.TheVariants as order
 use Rattle.xl_model.specs.declared.work.NoRoom.TheVariants as why
@@ -41,8 +41,8 @@ module _ (back : MadeWordsReadBack) (p : RowParts) (r : IsRow p) (x : Leaf) (fit
 
   fits-each : room ≡ true → (z : Size) → has_fit (order_of z) x (counts_of p z) ≡ true
   fits-each fits = each-size (λ z. has_fit (order_of z) x (counts_of p z) ≡ true)
-      (and-first (has_fit order.M2 x p.middle.counts) (has_fit order.G1 x p.large.counts) fits)
-      (and-second (has_fit order.M2 x p.middle.counts) (has_fit order.G1 x p.large.counts) fits)
+      (first_so (has_fit order.M2 x p.middle.counts) (has_fit order.G1 x p.large.counts) fits)
+      (second_so (has_fit order.M2 x p.middle.counts) (has_fit order.G1 x p.large.counts) fits)
 
   -- room by the counts is room by the leaves
   room-is : room ≡ has_room (Insert x) leaves (Cuckoo (rules_in p) (ways_in p))

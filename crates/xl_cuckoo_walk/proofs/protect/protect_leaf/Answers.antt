@@ -4,7 +4,8 @@ use Rattle.xl_cuckoo_walk.proofs.CountLemmas.{tied-given}
 use Rattle.xl_cuckoo_walk.proofs.HoldLemmas.{beside-now, holds-changed, IsTableFor, low-key}
 use Rattle.xl_cuckoo_walk.proofs.IndexLemmas.{each-way, size-stays, ways-table, with-ways-in}
 use Rattle.xl_cuckoo_walk.proofs.RowLemmas.{give-leaf}
-use Rattle.xl_cuckoo_walk.proofs.StepLemmas.{answered, items_of, named-leaf, NamedLeaf, word-some}
+use Rattle.xl_cuckoo_walk.proofs.StepLemmas.{answered, items_of, named-leaf, NamedLeaf}
+use Rattle.xl_model.proofs.CodeLemmas.{word-some}
 use Rattle.xl_cuckoo_walk.proofs.ValueLemmas.{tally-In}
 use Rattle.xl_cuckoo_walk.proofs.VerdictLemmas.{given, state_made}
 use Rattle.xl_cuckoo_walk.proofs.WordsLemmas.{word-same}

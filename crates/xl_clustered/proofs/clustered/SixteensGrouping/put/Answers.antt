@@ -1,5 +1,5 @@
 use Rattle.xl_clustered.proofs.Common.{◌<◌, subst, sym}
-use Rattle.xl_clustered.proofs.BlockLemmas.{word-some}
+use Rattle.xl_model.proofs.CodeLemmas.{word-some}
 use Rattle.xl_clustered.proofs.clustered.SixteensGrouping.put.Goals as goal
 
 pub put-requires-clause-place : goal.put-requires-clause-place

@@ -1,5 +1,6 @@
 use Rattle.xl_cuckoo_walk.proofs.Common.{◌%◌, ◌+◌, ◌/◌, ◌^◌, ◌∙◌, ◌∷◌, ◌≡◌, ◌≤◌, [], ap, AreCounts, AreHeld, AreTied, arith, Count, count_of, counts_of, CountState, CuckooState, CuckooWays, empty_cache, entries_in, find, get_or, has_key, In, inl, IsRow, IsTied, leaves_of_ways, leaves_under, length, List, mapping_of, None, One, opening, opening_ways, Option, Order, order_at, order_of, parts_by, refl, row_state, RowParts, rules, rules_of, sections_in, SectionsFresh, size_in, slice_index, Some, subst, sym, table_of, tags_in, tally, value_of, values_in, ways_at, ways_in, ways_of, WayShape, word_in, word_of as word_kept, word_list, ℕ}
-use Rattle.xl_cuckoo.proofs.TableLemmas.{opening-entries, opening-length}
+use Rattle.xl_model_lemmas.proofs.WayTallyLemmas.{opening-length}
+use Rattle.xl_cuckoo.proofs.TableLemmas.{opening-entries}
 use Rattle.xl_sections.specs.Counted.{word_of}
 use Rattle.xl_cuckoo_walk.proofs.IndexLemmas.{each, each-size}
 use Rattle.xl_cuckoo_walk.proofs.row.CuckooRow.open.Given.{Over}

@@ -1,6 +1,6 @@
 use Rattle.xl_nested.proofs.Common.{◌<◌, ◌^◌, ◌≡◌, arith, host_page, host_space, Leaf, leaf_at_page, refl, small_leaf, Some, sym}
 use Rattle.xl_nested.proofs.CacheLemmas.{filled-as, leaf-by, leaf-found, miss-after, small-says}
-use Rattle.xl_nested.proofs.GuestLemmas.{found-In}
+use Rattle.xl_model_lemmas.proofs.MappingLemmas.{found-In}
 use Rattle.xl_nested.proofs.HostLemmas.{filled-kept, small-low}
 use Rattle.xl_nested.proofs.host.Host.walk.Goals as goal
 

@@ -1,6 +1,6 @@
 use Rattle.xl_nested.proofs.Common.{host_page, None, refl, Some, sym}
 use Rattle.xl_nested.proofs.CacheLemmas.{filled-as, leaf-by, leaf-found, miss-after, nothing-found}
-use Rattle.xl_nested.proofs.GuestLemmas.{found-In}
+use Rattle.xl_model_lemmas.proofs.MappingLemmas.{found-In}
 use Rattle.xl_nested.proofs.HostLemmas.{filled-kept, keepable, loaded-kept, walked-for}
 use Rattle.xl_nested.proofs.host.Host.walk_slowly.Goals as goal
 
