@@ -411,6 +411,21 @@ a_touch_of_a_cached_section_items =
     (Referenced 5 4096 kind.Load) ∷
     (Referenced 6 2101248 kind.Load) ∷ []
 
+-- Two ways of 16 slots, a cache of two 2 MiB sections. Page 2, which is unmapped, is in the section
+-- of page 1: 2 loads with a hit, and that section is newer than the second one then, which the
+-- third one evicts. Page 1: 2 loads; the page of the second section: 6.
+abbrev pub an_unmapped_page_touches_a_section_items : List Item
+an_unmapped_page_touches_a_section_items =
+    (Command (event.Map 0 4096 order.K4 perm_r__u)) ∷
+    (Command (event.Map 0 2101248 order.K4 perm_r__u)) ∷
+    (Command (event.Map 0 4198400 order.K4 perm_r__u)) ∷
+    (Referenced 1 4096 kind.Load) ∷
+    (Referenced 2 2101248 kind.Load) ∷
+    (Referenced 3 8192 kind.Load) ∷
+    (Referenced 4 4198400 kind.Load) ∷
+    (Referenced 5 4096 kind.Load) ∷
+    (Referenced 6 2101248 kind.Load) ∷ []
+
 -- Two ways of 16 slots, section caches of four. Page 1: 6 loads, both sections are cached. Its
 -- protect changes no bit and no way: the store is 2 loads with 2 hits.
 abbrev pub a_protect_leaves_sections_rows : List Row
