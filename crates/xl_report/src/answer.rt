@@ -1,13 +1,17 @@
 //! The lines of accesses, commands and images.
 
-ghost use Rattle.std.specs.Prelude.{◌≡◌, ◌+◌, ◌≤◌, ◌<◌, ◌++◌, ℕ, length, codes, decimal, is_ok};
+ghost use Rattle.std.specs.Prelude.{◌≡◌, ◌+◌, ◌≤◌, ◌<◌, ◌++◌, ℕ, [], length, drop, codes, decimal, is_ok};
 ghost use Rattle.xl_model.specs.Tally.{IsSmall, physical};
 ghost use Rattle.xl_model.specs.Lines.{kind_letter, with_reply, answer_line, verb_of, with_outcome, command_line, image_line};
 ghost use Rattle.xl_outside.specs.Sinks.{SinkAfter};
 
+use crate::front::{bytes_before, hex_before, number_before};
 use crate::line::Line;
 use xl_model::{Event, Kind, Outcome, Reply, Row, code};
 use xl_outside::{Failed, Sink, put_all};
+
+/// The most bytes of the line of an access.
+const LONGEST: usize = 112;
 
 /// An access of the record of this number, in the space where it was served, and its reply.
 #[derive(Clone, Copy)]
@@ -27,24 +31,36 @@ pub struct Answered {
 ///
 /// `Failed` only where the sink's faults rose; then the beginning of the line was appended.
 #[inline(always)]
-#[tactic(auto, unfolding(xl_model::specs::Lines::answer_line))]
 pub fn write_answer<K: Sink>(out: &mut K, row: &Row, answered: Answered) -> Result<(), Failed>
     requires { IsSmall answered.reply }
     ensures { SinkAfter K.sink
         (answer_line row.now.name.bytes answered.number answered.kind answered.space answered.va
         answered.reply) out.old out.new (is_ok result) }
 {
-    let mut line = Line::<128>::new();
-    line.add(row.name.as_bytes());
-    line.add(b" ");
-    line.number(answered.number);
-    line.add(letter(answered.kind));
-    line.number(answered.space as u64);
-    line.add(b" ");
-    line.hex(answered.va);
-    add_reply(&mut line, answered.kind, answered.va, answered.reply);
-    line.add(b"\n");
-    put_all(out, line.bytes())
+    let mut line = [0; LONGEST];
+    let start = answer_text(&mut line, row.name.as_bytes(), answered);
+    put_all(out, &line[start..])
+}
+
+/// Puts the line of an access at a buffer's end, and returns where it starts.
+#[inline(always)]
+fn answer_text(line: &mut [u8], name: &[u8], answered: Answered) -> usize
+    requires small { IsSmall answered.reply }
+    requires name { length name.now ≤ 16 }
+    requires room { length line.old ≡ 112 }
+    ensures within { result ≤ 112 }
+    ensures text { drop result line.new ≡ answer_line name.now answered.number answered.kind
+        answered.space answered.va answered.reply }
+{
+    let at = bytes_before(line, LONGEST, b"\n");
+    let at = reply_before(line, at, answered.kind, answered.va, answered.reply);
+    let at = hex_before(line, at, answered.va);
+    let at = bytes_before(line, at, b" ");
+    let at = number_before(line, at, answered.space as u64);
+    let at = bytes_before(line, at, letter(answered.kind));
+    let at = number_before(line, at, answered.number);
+    let at = bytes_before(line, at, b" ");
+    bytes_before(line, at, name)
 }
 
 /// The letter of a kind of access, between blanks.
@@ -59,25 +75,28 @@ fn letter(kind: Kind) -> &'static [u8]
     }
 }
 
-/// Puts a reply at the line's end: the physical address, or the code of the fault.
-fn add_reply(line: &mut Line<128>, kind: Kind, va: u64, reply: Reply)
+/// Puts a reply in front of what a buffer has from `end` on, and returns where it starts: the
+/// physical address, or the code of the fault.
+#[inline(always)]
+fn reply_before(line: &mut [u8], end: usize, kind: Kind, va: u64, reply: Reply) -> usize
     requires small { IsSmall reply }
-    requires room { length line.old + 40 ≤ 128 }
-    ensures text { line.new ≡ with_reply line.old kind va reply }
-    ensures grows { length line.new ≤ length line.old + 40 }
+    requires room { 34 ≤ end }
+    requires within { end ≤ length line.old }
+    ensures start { end ≤ result + 34 }
+    ensures order { result ≤ end }
+    ensures text { drop result line.new ≡ with_reply [] kind va reply ++ drop end line.old }
 {
     let fault: &[u8] = match reply {
         Reply::Frame(frame) => {
-            line.add(b" ok ");
-            line.hex(frame * 4096 + va % 4096);
-            return;
+            let at = hex_before(line, end, frame * 4096 + va % 4096);
+            return bytes_before(line, at, b" ok ");
         }
         Reply::Unmapped => b" unmapped ",
         Reply::Denied => b" denied ",
         Reply::NotCanonical => b" notcanonical ",
     };
-    line.add(fault);
-    line.number(code(kind) as u64);
+    let at = number_before(line, end, code(kind) as u64);
+    bytes_before(line, at, fault)
 }
 
 /// Appends the line of a command: the row's name, the command's verb, and its outcome. An event

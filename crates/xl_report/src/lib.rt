@@ -3,6 +3,7 @@
 #![tactic(auto)]
 
 mod answer;
+mod front;
 mod line;
 mod object;
 mod row;

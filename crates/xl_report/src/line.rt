@@ -1,10 +1,13 @@
 //! A line that is being put together.
 
-ghost use Rattle.std.specs.Prelude.{◌≡◌, ◌+◌, ◌≤◌, ◌<◌, ◌++◌, [], length, take, decimal};
-ghost use Rattle.xl_model.specs.Lines.{hex16, hex_digits};
+ghost use Rattle.std.specs.Prelude.{◌≡◌, ◌+◌, ◌≤◌, ◌<◌, ◌++◌, [], length, map, take, decimal};
+ghost use Rattle.std.specs.Simd.Lanes.{Each1};
+ghost use Rattle.xl_model.specs.Lines.{hex16, hex_digits, hex_glyph};
+ghost use Rattle.xl_report.specs.Halves.{halves_of};
 
 use itoa::Buffer;
 use std::marker::Model;
+use std::simd::prelude::*;
 
 /// A line of at most `MOST` bytes that is being put together. Contracts see its bytes so far. Its
 /// room is cleared for each line, so a line that is written often has little.
@@ -80,20 +83,33 @@ fn put(buffer: &mut [u8], at: usize, bytes: &[u8])
     buffer[at..at + bytes.len()].copy_from_slice(bytes);
 }
 
-/// The 16 hexadecimal digits of a number, in lower case.
+/// The 16 hexadecimal digits of a number, in lower case. They are made side by side.
+#[inline(always)]
 pub(crate) fn hex_text(n: u64) -> [u8; 16]
     ensures { result ≡ hex_digits 16 n }
 {
-    let mut text = [0; 16];
-    let mut left = n;
-    for i in (0..16usize).rev() {
-        let digit = (left % 16) as u8;
-        text[i] = if digit < 10 {
-            b'0' + digit
-        } else {
-            b'a' + digit - 10
-        };
-        left /= 16;
-    }
-    text
+    glyphs(halves(u64x1::splat(n).to_le_bytes())).to_array()
+}
+
+/// The upper half and the lower half of each byte, the last byte's first.
+#[inline(always)]
+fn halves(bytes: u8x8) -> u8x16
+    ensures { result ≡ halves_of bytes }
+{
+    let upper = bytes >> u8x8::splat(4);
+    let lower = bytes & u8x8::splat(15);
+    upper.shuffle(
+        lower,
+        [7, 15, 6, 14, 5, 13, 4, 12, 3, 11, 2, 10, 1, 9, 0, 8],
+    )
+}
+
+/// The hexadecimal digit of each number below 16, in lower case.
+#[inline(always)]
+fn glyphs(digits: u8x16) -> u8x16
+    requires { Each1 (λ d. d < 16) digits }
+    ensures { result ≡ map hex_glyph digits }
+{
+    let is_decimal = digits.simd_lt(u8x16::splat(10));
+    digits + is_decimal.select(u8x16::splat(b'0'), u8x16::splat(b'a' - 10))
 }
