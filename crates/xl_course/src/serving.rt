@@ -223,20 +223,21 @@ fn serve_record<R, D: Form<R>, K: Sink, const ANSWERS: bool>(
 {
     match sole_access(&found.reference) {
         Some((va, kind)) => { form.access(rack, found.number, Access { va, kind }, ANSWERS, out) }
-        None => serve_accesses::<R, D, K, ANSWERS>(form, rack, found, out),
+        None => serve_accesses::<R, D, K, ANSWERS>(form, rack, *found, out),
     }
 }
 
-/// Serves the accesses of a record, one by one.
+/// Serves the accesses of a record, one by one. The record is taken by value: with a reference to
+/// it, each record would be copied to memory, also where this isn't called.
 #[inline(never)]
 fn serve_accesses<R, D: Form<R>, K: Sink, const ANSWERS: bool>(
     form: &mut D,
     rack: &mut R,
-    found: &Numbered,
+    found: Numbered,
     out: &mut K,
 ) -> Result<(), Failed>
     ensures served { HasServed D.meaning K.sink ANSWERS
-        (items_of D.meaning (found_of found.now))
+        (items_of D.meaning (found_of found))
         (D.state form.old rack.old) (D.state form.new rack.new) out.old out.new (is_ok result) }
     ensures can { (commands : List D.Command)
         → D.can form.old rack.old commands → D.can form.new rack.new commands }

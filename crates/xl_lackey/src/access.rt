@@ -13,6 +13,7 @@ const PAGE: u64 = 4096;
 ///
 /// A reference is one access for each 4 KiB page that it touches, in rising order: the first at its
 /// address, the others at their page's start. A modify is all its loads, and then all its stores.
+#[inline(always)]
 pub fn nth_access(reference: &Reference, i: u32) -> Option<(u64, Kind)>
     ensures { result ≡ slice_get (accesses reference.now) i }
 {
@@ -67,6 +68,7 @@ fn is_within_page(reference: &Reference) -> bool
 }
 
 /// The access of this number in one going over the pages touched.
+#[inline(always)]
 fn access(reference: &Reference, kind: Kind, i: u32) -> Option<(u64, Kind)>
     ensures { result ≡ slice_get (each kind (places reference.now.addr reference.now.size)) i }
 {

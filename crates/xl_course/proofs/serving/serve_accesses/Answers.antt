@@ -62,18 +62,18 @@ few_items referenced number l addr size i h k =
 
 pub returns-in_default-clause-served : goal.returns-in_default-clause-served
 returns-in_default-clause-served g c =
-    let r = c.args.found.now in
+    let r = c.args.found in
     served_all _ _ (not (eqb g.row.ANSWERS 0)) _ c.loop-i.i _ _ _ _ (items_end g.D.Form.meaning.referenced r.number (accesses r.reference) c.loop-i.i (sym c.nth_access.ensures ∙ c.in_default.is)) c.loop-i.invariant.served
 
 pub returns-in-Err-clause-served : goal.returns-in-Err-clause-served
 returns-in-Err-clause-served g c =
-    let r = c.args.found.now in
+    let r = c.args.found in
     served_lost _ _ (not (eqb g.row.ANSWERS 0)) _ c.loop-i.i _ _ _ _ _ _ _ (nth_item g.D.Form.meaning.referenced r.number (accesses r.reference) c.loop-i.i c.in-Some.va c.in-Some.kind (sym c.nth_access.ensures ∙ c.in-Some.is))
     c.loop-i.invariant.served c.in-Err.ensures.served
 
 pub loop-i-preserved : goal.loop-i-preserved
 loop-i-preserved g c =
-    let r = c.args.found.now in
+    let r = c.args.found in
     record {
       served = served_next _ _ (not (eqb g.row.ANSWERS 0)) _ c.loop-i.i _ _ _ _ _ _ _ (nth_item g.D.Form.meaning.referenced r.number (accesses r.reference) c.loop-i.i c.in-Some.va c.in-Some.kind (sym c.nth_access.ensures ∙ c.in-Some.is))
           c.loop-i.invariant.served c.in-Ok.ensures.served;
@@ -82,5 +82,5 @@ loop-i-preserved g c =
 
 pub returns-clause-served : goal.returns-clause-served
 returns-clause-served g c =
-    let r = c.args.found.now.reference in
-    served_all _ _ (not (eqb g.row.ANSWERS 0)) _ c.loop-i.i _ _ _ _ (few_items g.D.Form.meaning.referenced c.args.found.now.number r.letter r.addr r.size c.loop-i.i r.small (grind (arith, nat_tests))) c.loop-i.invariant.served
+    let r = c.args.found.reference in
+    served_all _ _ (not (eqb g.row.ANSWERS 0)) _ c.loop-i.i _ _ _ _ (few_items g.D.Form.meaning.referenced c.args.found.number r.letter r.addr r.size c.loop-i.i r.small (grind (arith, nat_tests))) c.loop-i.invariant.served
