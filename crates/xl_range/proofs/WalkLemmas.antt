@@ -1,6 +1,9 @@
 -- A walk and a fence of the table: what they keep, answer and leave.
-use Rattle.xl_range.proofs.Common.{◌%◌, ◌+◌, ◌<◌, ◌^◌, ◌∙◌, ◌≡◌, ◌⊎◌, ap, arith, Bool, Cached, caches_fenced, fence_answer, find, find-In, find-passes, holds_page, In, inl, inr, IsAt, IsFence, IsFit, IsFresh, IsKeepable, IsRow, IsTable, IsWalk, Leaf, leaf_at_page, leaf_by, leaf_in, length, List, nat_tests, newest-In, None, Option, purged, purged-In, Range, range_reads, range_walk_by, RangeCache, ranges_of, reaches_range, refl, row_of, Some, spread, subst, sym, table_fenced, table_walked, TableState, touched-In, touched-none, TreapView, true, walk_answer, walked, with_fill, with_touch, without_items, ℕ}
+use Rattle.xl_range.proofs.Common.{◌%◌, ◌*◌, ◌-◌, ◌/◌, ◌≤◌, pages_of, ◌+◌, ◌<◌, ◌^◌, ◌∙◌, ◌≡◌, ◌⊎◌, ap, arith, Bool, Cached, caches_fenced, fence_answer, find, find-In, find-passes, holds_page, In, inl, inr, IsAt, IsFence, IsFit, IsFresh, IsKeepable, IsRow, IsTable, IsWalk, Leaf, leaf_at_page, leaf_by, leaf_in, length, List, nat_tests, newest-In, None, Option, purged, purged-In, Range, range_reads, range_walk_by, RangeCache, ranges_of, reaches_range, refl, row_of, Some, spread, subst, sym, table_fenced, table_walked, TableState, touched-In, touched-none, TreapView, true, walk_answer, walked, with_fill, with_touch, without_items, ℕ}
 use Rattle.xl_model.specs.Base.{plus}
+use Rattle.xl_model.specs.LeafWords.{perm_code, small_leaf}
+use Rattle.xl_model.specs.declared.address.Order.TheVariants as order
+use Rattle.xl_model.proofs.CodeLemmas.{frame-back, perm-back}
 use Rattle.xl_model.specs.Walks.{with_range}
 use Rattle.xl_model.specs.declared.event.Reach.{Reach}
 use Rattle.xl_model.specs.declared.work.Walk.{Walk}
@@ -155,7 +158,23 @@ none-of (Some r) h = absurd (h r refl)
 pub keepable : (page : ℕ) (r : Range) → IsAt page r → IsKeepable r
 keepable page r at = record { some = at.fit.some; space_in = at.fit.space_in; pages_in = at.fit.pages_in; frames_in = at.fit.frames_in }
 
--- The walk's leaf, as the call gives it.
-pub leaf-walk : (space page n : ℕ) (t new : TreapView) (k left : Cached Range) (r : Range) (l : Leaf) (self : TableState) → l ≡ leaf_in page r
-    → IsWalk space page self (record { leaf = Some (leaf_in page r); cache_hits = 0 }) (row_of n new left) → IsWalk space page self (record { leaf = Some l; cache_hits = 0 }) (row_of n new left)
-leaf-walk space page n t new k left r l self e w = let P : Leaf → Type 0 = λ x. IsWalk space page self (record { leaf = Some x; cache_hits = 0 }) (row_of n new left) in subst P (sym e) w
+-- A leaf of 4 KiB, as its word.
+pub small-at : (space page : ℕ) (r : Range) → r.order ≡ order.K4 → r.start ≤ page → r.space ≡ space → small_leaf space page ((r.frame + (page - r.start)) * 16 + perm_code r.perm) ≡ leaf_in page r
+small-at space page r o from own =
+    let skip : (page - r.start) / pages_of r.order * pages_of r.order ≡ page - r.start = rw o (omega arith) in
+    let first : page / 1 * 1 ≡ r.start + (page - r.start) = omega arith in
+    rw (own, skip, o, first, frame-back (r.frame + (page - r.start)) r.perm, perm-back (r.frame + (page - r.start)) r.perm) refl
+
+pub small-walk : (space page hits code : ℕ) (r : Range) → r.order ≡ order.K4 → r.start ≤ page → r.space ≡ space → code ≡ perm_code r.perm
+    → (let w : Walk = record { leaf = Some (small_leaf space page ((r.frame + (page - r.start)) * 16 + code)); cache_hits = hits } in w) ≡ record { leaf = Some (leaf_in page r); cache_hits = hits }
+small-walk space page hits code r o from own e =
+    let walk : Leaf → Walk = λ x. record { leaf = Some x; cache_hits = hits } in
+    ap (λ (n : ℕ). walk (small_leaf space page ((r.frame + (page - r.start)) * 16 + n))) e ∙ ap walk (small-at space page r o from own)
+
+-- A range that is found is one of the space.
+pub found-own : (space page : ℕ) (r : Range) (rs : List Range) → Some r ≡ find (holds_page space page) rs → r.space ≡ space
+found-own space page r rs e = holds-own space page r (find-passes (holds_page space page) r rs (sym e))
+
+-- The walk of a page, as its result says it.
+pub page-walk : (space page : ℕ) (said w : Walk) (old new : TableState) → said ≡ w → IsWalk space page old w new → IsWalk space page old said new
+page-walk space page said w old new e walks = let P : Walk → Type 0 = λ x. IsWalk space page old x new in subst P (sym e) walks

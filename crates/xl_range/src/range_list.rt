@@ -1,14 +1,16 @@
 //! Ranges in a recency list.
 
-ghost use Rattle.std.specs.Prelude.{◌≡◌, ◌+◌, ◌≤◌, find, length, IsOk, IfOk};
+ghost use Rattle.std.specs.Prelude.{◌≡◌, ◌+◌, ◌≤◌, ◌<◌, ◌^◌, find, length, IsOk, IfOk};
 ghost use Rattle.xl_model.specs.Ranges.{holds_page};
 ghost use Rattle.xl_model.specs.Recency.{touched, purged};
 ghost use Rattle.xl_model.specs.Caches.{empty_cache, without_items, reaches_range};
 ghost use Rattle.xl_model.specs.Walks.{with_touch, with_fill};
 ghost use Rattle.xl_recency.specs.Widths.{IsWidth};
-ghost use Rattle.xl_range.specs.RangeCoding.{IsKeepable, item_holds, item_reached};
+ghost use Rattle.xl_range.specs.RangeCoding.{IsKeepable, item_at, item_holds, item_reached};
 
-use crate::range_coding::{BLANK, RangeItem, holds, item_of_range, range_of, reaches};
+use crate::range_coding::{
+    BLANK, RangeItem, holds, is_in, item_of_range, key_of, range_of, reaches,
+};
 use std::alloc::Global;
 use std::marker::Model;
 use xl_model::{NoMemory, Range, Reach};
@@ -23,20 +25,23 @@ pub(crate) struct RangeList {
 impl Model for RangeList {
     ghost use Rattle.xl_model.specs.declared.leaf.Range.{Range};
     ghost use Rattle.xl_model.specs.Caches.{Cached};
-    ghost use Rattle.xl_range.specs.RangeCoding.{ranges_of};
+    ghost use Rattle.xl_range.specs.RangeCoding.{ranges_of, AllWithin};
 
     ghost Value = { Cached Range };
 
     ghost view = { λ t. ranges_of t.cache };
+
+    ghost invariant = { λ t. AllWithin t.cache.items };
 }
 
-/// Brings the newest item whose range holds the page to the front.
-fn touch_holding(cache: &mut Cache<RangeItem>, space: u16, page: u64) -> Option<RangeItem>
-    ensures found { result ≡ find (item_holds space page) cache.old.items }
-    ensures moved { cache.new.items ≡ touched (item_holds space page) cache.old.items }
+/// Brings the newest item whose range holds the page with this key to the front.
+#[inline(always)]
+fn touch_holding(cache: &mut Cache<RangeItem>, key: u64) -> Option<RangeItem>
+    ensures found { result ≡ find (item_at key) cache.old.items }
+    ensures moved { cache.new.items ≡ touched (item_at key) cache.old.items }
     ensures width { cache.new.width ≡ cache.old.width }
 {
-    cache.touch(|item| holds(item, space, page))
+    cache.touch(|item| holds(item, key))
 }
 
 /// Removes the items whose ranges hold the page.
@@ -45,7 +50,7 @@ fn drop_holding(cache: &mut Cache<RangeItem>, space: u16, page: u64) -> u64
     ensures count { result + length cache.new.items ≡ length cache.old.items }
     ensures width { cache.new.width ≡ cache.old.width }
 {
-    cache.remove_where(|item| holds(item, space, page))
+    cache.remove_where(|item| is_in(&range_of(item), space, page))
 }
 
 /// Removes the items whose ranges a fence reaches.
@@ -70,11 +75,14 @@ impl RangeList {
 
     /// Brings the newest range that holds the page to the front, and gives it. None where none
     /// holds it; then nothing changes.
+    #[inline(always)]
     pub fn look(&mut self, space: u16, page: u64) -> Option<Range>
+        requires space_in { space < 64 }
+        requires page_in { page < 2 ^ 52 }
         ensures found { result ≡ find (holds_page space page) self.old.items }
         ensures after { self.new ≡ with_touch (holds_page space page) self.old }
     {
-        let Some(item) = touch_holding(&mut self.cache, space, page) else {
+        let Some(item) = touch_holding(&mut self.cache, key_of(space, page)) else {
             return None;
         };
         Some(range_of(&item))

@@ -1,12 +1,13 @@
 //! A TLB of ranges.
 
-ghost use Rattle.std.specs.Prelude.{◌≡◌, ◌+◌, find, length, IsOk, IfOk, IfSome, Some};
+ghost use Rattle.std.specs.Prelude.{◌≡◌, ◌+◌, ◌<◌, ◌^◌, find, length, IsOk, IfOk, IfSome, Some};
 ghost use Rattle.xl_model.specs.Ranges.{holds_page};
 ghost use Rattle.xl_model.specs.Caches.{empty_cache, without_items, reaches_range};
 ghost use Rattle.xl_model.specs.Walks.{with_touch, with_fill};
 ghost use Rattle.xl_recency.specs.Widths.{IsWidth};
 ghost use Rattle.xl_range.specs.RangeCoding.{IsKeepable};
 
+use crate::range_coding::is_in;
 use crate::range_list::RangeList;
 use std::alloc::Global;
 use std::marker::Model;
@@ -48,14 +49,6 @@ const NO_RANGE: Range = Range {
     },
 };
 
-/// Whether the range holds the page of the space.
-#[inline]
-fn is_in(range: &Range, space: u16, page: u64) -> bool
-    ensures { result ≡ holds_page space page range.now }
-{
-    range.space == space && range.start <= page && page - range.start < range.pages
-}
-
 impl RangeTlb {
     /// An empty TLB of the width. Stored inline; never allocates.
     pub fn open(alloc: Global, width: u8) -> Result<RangeTlb, NoMemory>
@@ -87,7 +80,10 @@ impl RangeTlb {
 
     /// Brings the newest range that holds the page to the front, and gives it. None where none
     /// holds it; then nothing changes.
+    #[inline(always)]
     pub fn look(&mut self, space: u16, page: u64) -> Option<Range>
+        requires space_in { space < 64 }
+        requires page_in { page < 2 ^ 52 }
         ensures found { result ≡ find (holds_page space page) self.old.items }
         ensures after { self.new ≡ with_touch (holds_page space page) self.old }
     {

@@ -1,13 +1,15 @@
 //! The table of ranges.
 
-ghost use Rattle.std.specs.Prelude.{◌≡◌, ◌<◌, ◌≤◌, ◌^◌, ◌+◌, ◌-◌, length, IfOk};
+ghost use Rattle.std.specs.Prelude.{◌≡◌, ◌<◌, ◌≤◌, ◌^◌, ◌+◌, ◌-◌, length, IfOk, Some};
 ghost use Rattle.xl_model.specs.declared.work.NoRoom.TheVariants as why;
 ghost use Rattle.xl_model.specs.Ranges.{holds_page, ranges_of};
 ghost use Rattle.xl_recency.specs.Widths.{IsWidth};
 ghost use Rattle.xl_model.specs.Caches.{without_items};
 ghost use Rattle.xl_model.specs.Placing.{no_moves};
-ghost use Rattle.xl_model.specs.Structures.{work_of, IsPage, IsWalk};
-ghost use Rattle.xl_range.specs.Rows.{meets_where, opening_table, row_table};
+ghost use Rattle.xl_model.specs.PageWalks.{IsPageWalk, walk_of_page};
+ghost use Rattle.xl_model.specs.Structures.{work_of, IsPage};
+ghost use Rattle.xl_range.specs.HeldRanges.{leaf_in as leaf_of};
+ghost use Rattle.xl_range.specs.Rows.{meets_where, opening_table, row_table, IsAt};
 
 use crate::changes::{add, move_to, set_perm, take_out};
 use crate::pieces::leaf_in;
@@ -16,6 +18,7 @@ use std::alloc::Global;
 use std::marker::Model;
 use xl_model::{
     Leaf, NoMemory, NoRoom, Order, PageWalk, Perm, Range, Reach, Refused, Structure, Walk, Work,
+    perm_code,
 };
 use xl_phys::Bus;
 use xl_treap::Treap;
@@ -72,6 +75,28 @@ fn purge(tlb: &mut RangeTlb, space: u16, page: u64) -> Work
     }
 }
 
+/// The result of a walk that found this range: a leaf of 4 KiB as its word.
+#[inline(always)]
+fn walk_of(range: &Range, _space: u16, page: u64, cache_hits: u64) -> PageWalk
+    requires at { IsAt page range.now }
+    requires own { range.now.space ≡ _space }
+    ensures { walk_of_page _space page result
+        ≡ record { leaf = Some (leaf_of page range.now); cache_hits = cache_hits } }
+{
+    match range.order {
+        Order::K4 => PageWalk::Small {
+            word: (range.frame + (page - range.start)) * 16 + perm_code(range.perm),
+            cache_hits,
+        },
+        Order::M2 | Order::G1 => PageWalk::Any {
+            walk: Walk {
+                leaf: Some(leaf_in(range, page)),
+                cache_hits,
+            },
+        },
+    }
+}
+
 impl Ranges {
     /// An empty table that may hold this many ranges, with a range TLB of this width.
     ///
@@ -98,51 +123,37 @@ impl Ranges {
 
     /// A walk that looks through the whole range TLB, and then goes down the treap.
     #[inline(never)]
-    fn walk_next(&mut self, space: u16, page: u64) -> Walk
+    fn walk_next(&mut self, space: u16, page: u64) -> PageWalk
         requires { IsPage (row_table self.old).shape space page }
-        ensures { IsWalk space page (row_table self.old) result (row_table self.new) }
+        ensures { IsPageWalk space page (row_table self.old) result (row_table self.new) }
     {
         if let Some(range) = self.tlb.look(space, page) {
-            return Walk {
-                leaf: Some(leaf_in(&range, page)),
-                cache_hits: 1,
-            };
+            return walk_of(&range, space, page, 1);
         }
         match self.treap.walk(space, page) {
             Some(range) => {
                 self.tlb.fill(range);
-                Walk {
-                    leaf: Some(leaf_in(&range, page)),
-                    cache_hits: 0,
-                }
+                walk_of(&range, space, page, 0)
             }
-            None => Walk {
-                leaf: None,
-                cache_hits: 0,
+            None => PageWalk::Any {
+                walk: Walk {
+                    leaf: None,
+                    cache_hits: 0,
+                },
             },
         }
     }
 
     /// A walk that asks for the newest range of the range TLB first.
     #[inline]
-    fn walk_newest(&mut self, space: u16, page: u64) -> Walk
+    fn walk_newest(&mut self, space: u16, page: u64) -> PageWalk
         requires { IsPage (row_table self.old).shape space page }
-        ensures walks { IsWalk space page (row_table self.old) result (row_table self.new) }
+        ensures walks { IsPageWalk space page (row_table self.old) result (row_table self.new) }
     {
         if let Some(range) = self.tlb.front(space, page) {
-            return Walk {
-                leaf: Some(leaf_in(range, page)),
-                cache_hits: 1,
-            };
+            return walk_of(range, space, page, 1);
         }
-        let walk = self.walk_next(space, page);
-        let Some(leaf) = walk.leaf else {
-            return walk;
-        };
-        Walk {
-            leaf: Some(leaf.by_fields()),
-            cache_hits: walk.cache_hits,
-        }
+        self.walk_next(space, page)
     }
 }
 
@@ -198,9 +209,7 @@ impl Structure for Ranges {
 
     #[inline]
     fn walk(&mut self, space: u16, page: u64) -> PageWalk {
-        PageWalk::Any {
-            walk: self.walk_newest(space, page),
-        }
+        self.walk_newest(space, page)
     }
 
     fn fence(&mut self, reach: Reach) -> u64 {
