@@ -18,12 +18,13 @@ ghost use Rattle.xl_array.specs.Lookup.{IsAt, IsFilled, IsTouched};
 ghost use Rattle.xl_array.specs.Touches.{IsPageTouch, LacksSmall};
 
 use crate::coding::{Hit, hit_of, page_word, tag_of};
+use crate::lists::Lists;
 use crate::lookup::Lookup;
 use crate::places::Places;
 use std::alloc::Global;
 use std::marker::Model;
 use xl_model::{Leaf, NoMemory, Order, Perm, Purge, Reach, TlbSpec, perm_of};
-use xl_recency::{Item, Sets};
+use xl_recency::Item;
 
 /// What a fill did: whether the array takes the leaf's order, and whether it holds a leaf more.
 #[derive(Clone, Copy)]
@@ -42,7 +43,7 @@ const NOT_TAKEN: Filled = Filled {
 #[derive(Drop)]
 pub struct Array<const W: usize> {
     spec: Places,
-    sets: Sets<W>,
+    sets: Lists<W>,
 }
 
 impl<const W: usize> Model for Array<W> {
@@ -61,31 +62,31 @@ impl<const W: usize> Model for Array<W> {
 /// Moves the newest item of the set with this tag to the front. Inlined, since the item that it
 /// returns would go through memory.
 #[inline(always)]
-fn touch_tag<const W: usize>(sets: &mut Sets<W>, set: usize, tag: u64) -> Option<Item>
+fn touch_tag<const W: usize>(sets: &mut Lists<W>, set: usize, tag: u64) -> Option<Item>
     requires width { W ≤ 64 }
     requires set { set < length sets.old }
     ensures { TouchesIn (has_tag tag) set sets.old sets.new result }
 {
-    sets.touch(set, |item| item.tag == tag)
+    sets.touch(set, tag)
 }
 
 /// The newest item of the set with this tag.
-fn find_tag<const W: usize>(sets: &Sets<W>, set: usize, tag: u64) -> Option<Item>
+fn find_tag<const W: usize>(sets: &Lists<W>, set: usize, tag: u64) -> Option<Item>
     requires width { W ≤ 64 }
     requires set { set < length sets.now }
     ensures { result ≡ find (has_tag tag) (slice_index_or sets.now set []) }
 {
-    sets.find(set, |item| item.tag == tag)
+    sets.find(set, tag)
 }
 
 /// Removes the items of the set with this tag.
-fn drop_tag<const W: usize>(sets: &mut Sets<W>, set: usize, tag: u64) -> u64
+fn drop_tag<const W: usize>(sets: &mut Lists<W>, set: usize, tag: u64) -> u64
     requires width { W ≤ 64 }
     requires set { set < length sets.old }
     ensures gone { PurgesIn (has_tag tag) set sets.old sets.new result }
     ensures most { result ≤ 64 }
 {
-    sets.remove_in(set, |item| item.tag == tag)
+    sets.remove_tag(set, tag)
 }
 
 /// Two permissions are the same.
@@ -104,7 +105,7 @@ fn keeps(item: &Item, tag: u64, frame: u64, perm: Perm) -> bool
 
 /// Removes the items of the set that keep the leaf with this tag, frame and permission.
 fn drop_kept<const W: usize>(
-    sets: &mut Sets<W>,
+    sets: &mut Lists<W>,
     set: usize,
     tag: u64,
     frame: u64,
@@ -119,7 +120,7 @@ fn drop_kept<const W: usize>(
 }
 
 /// Removes the items of the set with this tag in whatever space; the tag names space 0.
-fn drop_block<const W: usize>(sets: &mut Sets<W>, set: usize, tag: u64) -> u64
+fn drop_block<const W: usize>(sets: &mut Lists<W>, set: usize, tag: u64) -> u64
     requires width { W ≤ 64 }
     requires set { set < length sets.old }
     ensures gone { PurgesIn (has_block tag) set sets.old sets.new result }
@@ -129,7 +130,7 @@ fn drop_block<const W: usize>(sets: &mut Sets<W>, set: usize, tag: u64) -> u64
 }
 
 /// Removes the items of a space.
-fn drop_of_space<const W: usize>(sets: &mut Sets<W>, space: u16) -> u64
+fn drop_of_space<const W: usize>(sets: &mut Lists<W>, space: u16) -> u64
     requires width { W ≤ 64 }
     ensures gone { PurgesAll (has_space space) sets.old sets.new result }
     ensures most { result ≤ 64 * length sets.old }
@@ -138,7 +139,7 @@ fn drop_of_space<const W: usize>(sets: &mut Sets<W>, space: u16) -> u64
 }
 
 /// Removes all items.
-fn drop_each<const W: usize>(sets: &mut Sets<W>) -> u64
+fn drop_each<const W: usize>(sets: &mut Lists<W>) -> u64
     requires width { W ≤ 64 }
     ensures gone { PurgesAll is_item sets.old sets.new result }
     ensures most { result ≤ 64 * length sets.old }
@@ -155,7 +156,7 @@ impl<const W: usize> Array<W> {
         requires most { W ≤ 64 }
         ensures { IfOk result (λ array. array ≡ opening_array spec) }
     {
-        let sets = Sets::open(alloc, spec.sets)?;
+        let sets = Lists::open(alloc, spec.sets)?;
         Ok(Array {
             spec: Places::of(spec),
             sets,

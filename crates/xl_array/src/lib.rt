@@ -4,6 +4,7 @@
 mod any;
 mod array;
 mod coding;
+mod lists;
 mod lookup;
 mod places;
 

@@ -1,4 +1,5 @@
 mod Common
 mod FrontLemmas
+mod MarkLemmas
 pub mod ScanLemmas
 mod TotalLemmas

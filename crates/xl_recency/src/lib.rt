@@ -8,10 +8,15 @@
 mod cache;
 mod item;
 mod kernel;
+mod marked;
+mod marked_sets;
+mod marks;
 mod sets;
 mod ways;
 
 pub use cache::Cache;
 pub use item::{BLANK, Item};
+pub use marked::Marked;
+pub use marked_sets::MarkedSets;
 pub use sets::Sets;
 pub use ways::Ways;
