@@ -9,6 +9,7 @@ pub use Rattle.std.proofs.lemmas.Option.{same_Some}
 pub use Rattle.std.specs.List.{All, copy_within}
 pub use Rattle.std.specs.Option.{option_and_then, option_map}
 pub use Rattle.std.specs.Prelude.{if◌then◌else◌, ◌==◌, ◌||◌, ◌⊎◌, codes, IfSome, nat_le, nat_lt, None, Option, slice_get, slice_index, Some}
+pub use Rattle.xl_model.specs.Base.{one_if}
 pub use Rattle.xl_model.specs.declared.address.Kind.{Kind}
 pub use Rattle.xl_model.specs.declared.address.Kind.TheVariants.{Fetch, Load, Store}
 pub use Rattle.xl_text.specs.Numbers.{address_of, number_in}
@@ -22,7 +23,7 @@ pub use Rattle.xl_lackey.specs.Lines.{address_in, after, before, decimal_value, 
 unfoldable pub use Rattle.xl_lackey.specs.Lines.{judge}
 pub use Rattle.xl_lackey.specs.PrefixCache.{IsBeginning, IsPrefix, two_bytes}
 pub use Rattle.xl_lackey.specs.Scans.{IsFirstLine}
-pub use Rattle.xl_lackey.specs.Skims.{accesses_in, all_accesses, batch_size, Gathered, HasAccesses, IsRecordLine, IsSure, pair, read_of, Runs, skim_at, Skimmed, Skims, skims_both, Taken, Takes, with_records}
+pub use Rattle.xl_lackey.specs.Skims.{accesses_in, accesses_near, all_accesses, batch_size, Gathered, HasAccesses, IsRecordLine, IsSure, pair, read_of, Runs, skim_at, Skimmed, Skims, skims_both, Taken, Takes, with_records}
 pub use Rattle.xl_lackey.specs.Stream.{due, first_due, Left, left, left_by, MayCome, next_line, of_due, Record, records, State, unless_bad, with_verdict}
 pub use Rattle.xl_lackey.specs.Usual.{first_kind, is_modify, judged, judged_line, usual_front}
 pub use Rattle.xl_lackey.specs.declared.line.Verdict.{Verdict}

@@ -1,5 +1,5 @@
 -- Records taken one after another.
-use Rattle.xl_lackey.proofs.Common.{◌%◌, ◌++◌, ◌+◌, ◌<◌, ◌^◌, ◌∙◌, ◌∷◌, ◌≡◌, ◌≤◌, [], Access, accesses_in, all_accesses, ap, append-nil, append_assoc, ap₂, arith, Bad, drop, drop-drop, Found, HasAccesses, IsFirstLine, IsRecordLine, IsSure, Kind, Left, length, length-append, length-drop, length-set, lines_by, lines_of, List, map, map-append, next_line, None, pair, Record, records, refl, set, Skim, skim_at, Skimmed, Skims, skims_both, Skipped, State, subst, sym, take, take-set-le, take_more_set, Taken, Takes, Verdict, with_record, with_records, ℕ}
+use Rattle.xl_lackey.proofs.Common.{◌%◌, ◌++◌, ◌+◌, ◌<◌, ◌^◌, ◌∙◌, ◌∷◌, ◌≡◌, ◌≤◌, [], Access, accesses_in, all_accesses, ap, append-nil, append_assoc, ap₂, arith, Bad, drop, drop-drop, Found, HasAccesses, IsFirstLine, IsRecordLine, IsSure, Kind, Left, length, length-append, length-drop, length-set, lines_by, lines_of, List, map, map-append, next_line, None, pair, Record, records, refl, set, Skim, skim_at, Skimmed, Skims, skims_both, Skipped, State, subst, sym, take, take-set-le, take_more_set, Taken, Takes, Verdict, with_record, with_records, ℕ, accesses_near, one_if, Bool, true, false, Store}
 use Rattle.xl_lackey.proofs.SplitLemmas.{first_is, IsFirst, on_from, records_step}
 use Rattle.xl_lackey.proofs.StepLemmas.{left_passed}
 
@@ -124,7 +124,7 @@ sure_less more sure later rest used xs a is e few parts = record {
 }
 
 -- an access and a store behind it, which counts where the record is a modify
-pub put_both : (slots : List Access) (at : ℕ) (a b : Access) → at + 2 ≤ length slots → take (at + 2) (set (set slots at a) (at + 1) b) ≡ take at slots ++ a ∷ b ∷ []
+put_both : (slots : List Access) (at : ℕ) (a b : Access) → at + 2 ≤ length slots → take (at + 2) (set (set slots at a) (at + 1) b) ≡ take at slots ++ a ∷ b ∷ []
 put_both slots at a b h =
     let first : List Access = set slots at a in
     let within : at + 1 < length first = omega (arith, h, length-set slots at a) in
@@ -132,5 +132,16 @@ put_both slots at a b h =
     ap (λ (n : ℕ). take n (set first (at + 1) b)) count ∙ take_more_set first (at + 1) b within
     ∙ ap (λ (xs : List Access). xs ++ b ∷ []) (take_more_set slots at a (omega (arith, h))) ∙ append_assoc (take at slots) (a ∷ []) (b ∷ [])
 
-pub put_first : (slots : List Access) (at : ℕ) (a b : Access) → at + 2 ≤ length slots → take (at + 1) (set (set slots at a) (at + 1) b) ≡ take at slots ++ a ∷ []
+put_first : (slots : List Access) (at : ℕ) (a b : Access) → at + 2 ≤ length slots → take (at + 1) (set (set slots at a) (at + 1) b) ≡ take at slots ++ a ∷ []
 put_first slots at a b h = take-set-le (at + 1) (set slots at a) (at + 1) b (omega arith) ∙ take_more_set slots at a (omega (arith, h))
+
+pub put_counted : (slots : List Access) (at count va : ℕ) (kind : Kind) (modify : Bool) → at + 2 ≤ length slots → count ≡ 1 + one_if modify
+    → take (at + count) (set (set slots at (record { va = va; kind = kind })) (at + 1) (record { va = va; kind = Store })) ≡ take at slots ++ accesses_near modify va kind
+put_counted slots at count va kind true h e =
+    let a : Access = record { va = va; kind = kind } in
+    let b : Access = record { va = va; kind = Store } in
+    ap (λ (n : ℕ). take (at + n) (set (set slots at a) (at + 1) b)) e ∙ put_both slots at a b h
+put_counted slots at count va kind false h e =
+    let a : Access = record { va = va; kind = kind } in
+    let b : Access = record { va = va; kind = Store } in
+    ap (λ (n : ℕ). take (at + n) (set (set slots at a) (at + 1) b)) e ∙ put_first slots at a b h

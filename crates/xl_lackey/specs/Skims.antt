@@ -1,5 +1,6 @@
 -- Records whose bytes lie in one page each, taken together.
 use Rattle.std.specs.Prelude.{◌≡◌, ℕ, ◌+◌, ◌*◌, ◌%◌, ◌^◌, ◌<◌, ◌≤◌, Bool, true, false, List, [], ◌∷◌, ◌++◌, length, map, drop}
+use Rattle.xl_model.specs.Base.{one_if}
 use Rattle.xl_model.specs.declared.address.Kind.{Kind}
 use Rattle.xl_model.specs.declared.address.Kind.TheVariants.{Store}
 use Rattle.xl_text.specs.Texts.{lines_by, lines_of}
@@ -34,6 +35,10 @@ accesses_near false va k = record { va = va; kind = k } ∷ []
 -- The same of what was read of a line.
 abbrev pub read_of : Near → List Access
 read_of n = accesses_near n.is_modify n.va n.kind
+
+-- It is known how many accesses these are.
+abbrev pub IsCounted : Near → Type 0
+IsCounted n = n.count ≡ 1 + one_if n.is_modify
 
 -- A line is a record with these accesses.
 abbrev pub HasAccesses : Verdict → List Access → Type 0

@@ -50,14 +50,13 @@ pub fn sole_access(reference: &Reference) -> Option<(u64, Kind)>
     }
 }
 
-/// Whether so few bytes above the first one lie in its page. By smaller numbers than those of any
-/// size.
+/// Whether so few bytes above the first one lie in its page.
 #[inline(always)]
 pub(crate) fn stays_in_page(addr: u64, above: u32) -> bool
     requires { above < 100 }
     ensures { IsTrue result → borders_of addr (above + 1) ≡ 0 }
 {
-    (addr % PAGE) as u32 + above < PAGE as u32
+    addr.wrapping_add(above as u64) / PAGE == addr / PAGE
 }
 
 /// Whether all bytes touched lie in one page.

@@ -142,15 +142,16 @@ fn are_digits(values: u8x8) -> bool
     word(values) & 0xf0f0_f0f0_f0f0_f0f0 == 0
 }
 
-/// The number of eight hexadecimal digits. Those in even places are the upper halves of its bytes.
+/// The number of eight hexadecimal digits. Those in even places are the upper halves of its bytes:
+/// 28 bits down, they are four bits above the others, and nothing is left of those.
 #[inline(always)]
 fn number(digits: u8x8) -> u64
     requires { Each1 (λ d. d < 16) digits }
     ensures value { result ≡ number_of 0 digits }
     ensures small { result < 16 ^ 8 }
 {
-    let halves = word(digits.swizzle([6, 4, 2, 0, 7, 5, 3, 1]));
-    halves % (1 << 32) * 16 + (halves >> 32)
+    let halves = word(digits.swizzle([7, 5, 3, 1, 6, 4, 2, 0]));
+    (halves >> 28) + halves % (1 << 32)
 }
 
 /// An address of eight digits or of ten, as nearly all are, and the place of the comma that ends

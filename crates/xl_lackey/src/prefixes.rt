@@ -16,6 +16,15 @@ use xl_model::Kind;
 /// How many pages are kept of addresses of eight digits, and as many of those of ten.
 const PLACES: usize = 256;
 
+/// Fewer lines of kept pages than this, one after another, are few.
+const FEW: u64 = 4;
+
+/// How many lines are read whether their pages are kept or not, the first time that few are.
+const FIRST_PLAIN: u64 = 32;
+
+/// The most lines that are so read: as many as a batch has room for.
+const MOST_PLAIN: u64 = 256;
+
 /// A page, and how a line begins whose address lies in it: up to the last three digits, which are
 /// the place in the page.
 #[derive(Clone, Copy)]
@@ -138,6 +147,8 @@ fn keep_page(prefixes: &mut [Prefix], text: &[u8], extra: usize, page: u64, kind
 pub(crate) struct PrefixCache {
     eight: [Prefix; PLACES],
     ten: [Prefix; PLACES],
+    /// How many lines are read whether their pages are kept or not, the next time that few are.
+    plain: u64,
 }
 
 impl Model for PrefixCache {
@@ -167,7 +178,22 @@ impl PrefixCache {
         PrefixCache {
             eight: [eight; PLACES],
             ten: [ten; PLACES],
+            plain: FIRST_PLAIN,
         }
+    }
+
+    /// How many lines to read whether their pages are kept or not, after `kept` lines of kept pages:
+    /// one, or many where those are few, since a branch on which line's page is kept is then
+    /// predicted badly; twice as many each time that they are few again.
+    #[inline(always)]
+    pub(crate) fn plain_lines(&mut self, kept: u64) -> u64 {
+        if kept >= FEW {
+            self.plain = FIRST_PLAIN;
+            return 1;
+        }
+        let lines = self.plain;
+        self.plain = lines.saturating_mul(2).min(MOST_PLAIN);
+        lines
     }
 
     /// The first line of a text, where its page is kept: how many bytes it has with its newline,

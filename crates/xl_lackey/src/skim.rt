@@ -1,7 +1,7 @@
 //! Bulk path: single-page records in Lackey's own form.
 
 ghost use Rattle.std.specs.Prelude.{◌≡◌, ◌+◌, ◌-◌, ◌^◌, ◌<◌, ◌≤◌, ◌++◌, length, take, drop, true, IfSome};
-ghost use Rattle.xl_lackey.specs.Skims.{batch_size, read_of, accesses_near, skims_both, HasRoom, IsRecordLine, IsSure, Runs, Skims};
+ghost use Rattle.xl_lackey.specs.Skims.{batch_size, read_of, accesses_near, skims_both, HasRoom, IsCounted, IsRecordLine, IsSure, Runs, Skims};
 
 use crate::batch::{Batch, ROOM, put};
 use crate::prefixes::PrefixCache;
@@ -52,13 +52,14 @@ impl Skim {
 }
 
 /// A line that was read: how many bytes it has with its newline, and its access; of a modify the
-/// load, which a store follows at the same place.
+/// load, which a store follows at the same place. `count` is how many accesses these are.
 #[derive(Clone, Copy)]
 pub(crate) struct Near {
     pub(crate) used: usize,
     pub(crate) va: u64,
     pub(crate) kind: Kind,
     pub(crate) is_modify: bool,
+    pub(crate) count: usize,
 }
 
 /// The first line of a text, in Lackey's own form, where it is a record whose bytes lie in one
@@ -66,7 +67,8 @@ pub(crate) struct Near {
 #[inline(always)]
 fn near_record(text: &[u8]) -> Option<Near>
     requires { 17 ≤ length text.now }
-    ensures { IfSome result (λ near. IsRecordLine text.now near.used (read_of near)) }
+    ensures line { IfSome result (λ near. IsRecordLine text.now near.used (read_of near)) }
+    ensures count { IfSome result IsCounted }
 {
     let (front, numbers) = front_of(text)?;
     let found = near_numbers(numbers)?;
@@ -75,6 +77,7 @@ fn near_record(text: &[u8]) -> Option<Near>
         va: found.addr,
         kind: front.kind,
         is_modify: front.is_modify,
+        count: front.count as usize,
     })
 }
 
@@ -163,16 +166,28 @@ pub(crate) fn skim_kept(
 /// the two count. No branch asks whether a line is a modify: it would be predicted badly.
 #[inline(always)]
 fn put_near(slots: &mut [Access], at: usize, near: Near) -> usize
-    requires { at + 2 ≤ length slots.old }
+    requires room { at + 2 ≤ length slots.old }
+    requires count { IsCounted near }
     ensures items { take (at + result) slots.new ≡ take at slots.old ++ read_of near }
     ensures places { length slots.new ≡ length slots.old }
+    ensures some { 1 ≤ result }
     ensures few { result ≤ 2 }
 {
     let Near { va, kind, .. } = near;
     put(slots, at, Access { va, kind });
     let kind = Kind::Store;
     put(slots, at + 1, Access { va, kind });
-    if near.is_modify { 2 } else { 1 }
+    near.count
+}
+
+/// Where to put no access of a further record, after `len` accesses and those of `most` records at
+/// most.
+#[inline(always)]
+fn full_at(len: usize, most: u64) -> usize
+    ensures room { result < batch_size }
+    ensures few { result ≤ len + most }
+{
+    (len as u64).saturating_add(most).min(ROOM as u64 - 1) as usize
 }
 
 /// Reads the first lines of a text, `most` at most, whether their pages are kept or not, and puts
@@ -189,7 +204,13 @@ pub(crate) fn skim_plain(text: &[u8], slots: &mut [Access], len: usize, most: u6
     let mut used = 0;
     let mut taken = 0;
     let mut end = len;
-    'plain: while taken < most && end <= ROOM - 2 && text.len() - used >= NEAR {
+    if text.len() < NEAR {
+        let run = Run { used, taken };
+        return Plain { run, len: end };
+    }
+    let last = text.len() - NEAR;
+    let full = full_at(len, most);
+    'plain: while end < full && used <= last {
         let Some(near) = near_record(&text[used..]) else {
             break;
         };
@@ -199,24 +220,6 @@ pub(crate) fn skim_plain(text: &[u8], slots: &mut [Access], len: usize, most: u6
     }
     let run = Run { used, taken };
     Plain { run, len: end }
-}
-
-/// Fewer lines of kept pages than this, one after another, are few.
-const FEW: u64 = 4;
-
-/// How many lines are read whether their pages are kept or not, after few lines of kept pages.
-const PLAIN: u64 = 32;
-
-/// How many lines are read whether their pages are kept or not, after `kept` lines of kept pages,
-/// at most `most` in all: one, or many where those are few, since a branch on which line's page is
-/// kept is then predicted badly.
-#[inline(always)]
-fn plain_lines(kept: u64, most: u64) -> u64
-    requires { kept ≤ most }
-    ensures { kept + result ≤ most }
-{
-    let lines = if kept < FEW { PLAIN } else { 1 };
-    lines.min(most - kept)
 }
 
 /// Reads the first lines of a text, `most` at most: those whose pages are kept, and some after
@@ -244,7 +247,8 @@ fn skim_some(
     }
     let rest = &text[kept.used..];
     prefixes.keep(rest);
-    let new = into.skim_plain(rest, plain_lines(run.taken, most));
+    let plain = prefixes.plain_lines(run.taken).min(most - run.taken);
+    let new = into.skim_plain(rest, plain);
     kept.then(Skim {
         used: new.used,
         lines: kept.lines.wrapping_add(new.taken),

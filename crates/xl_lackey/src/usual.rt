@@ -3,6 +3,7 @@
 ghost use Rattle.std.specs.Prelude.{◌≡◌, ◌+◌, ◌-◌, ◌^◌, ◌<◌, ◌≤◌, ◌++◌, length, take, drop, Some, IfSome};
 ghost use Rattle.xl_lackey.specs.Usual.{usual_front, first_kind, is_modify};
 ghost use Rattle.xl_lackey.specs.Scans.{IsFirstLine};
+ghost use Rattle.xl_model.specs.Base.{one_if};
 ghost use Rattle.xl_lackey.specs.Accesses.{borders};
 ghost use Rattle.xl_lackey.specs.Digits.{hex_value};
 ghost use Rattle.xl_lackey.specs.Nears.{IsNumbers};
@@ -112,13 +113,15 @@ fn other_numbers(text: &[u8], eight: u64) -> Option<Numbers>
 }
 
 /// How a line begins: its first three bytes, of which the first counts least, the letter among
-/// them, the kind of its first access, and whether it is a modify, so that a store follows.
+/// them, the kind of its first access in a page, whether it is a modify, so that a store follows,
+/// and how many accesses that makes in a page.
 #[derive(Clone, Copy)]
 pub(crate) struct LinePrefix {
     three: u32,
     letter: Letter,
     pub(crate) kind: Kind,
     pub(crate) is_modify: bool,
+    pub(crate) count: u8,
 }
 
 const FETCH: LinePrefix = LinePrefix {
@@ -126,6 +129,7 @@ const FETCH: LinePrefix = LinePrefix {
     letter: Letter::I,
     kind: Kind::Fetch,
     is_modify: false,
+    count: 1,
 };
 
 const LOAD: LinePrefix = LinePrefix {
@@ -133,6 +137,7 @@ const LOAD: LinePrefix = LinePrefix {
     letter: Letter::L,
     kind: Kind::Load,
     is_modify: false,
+    count: 1,
 };
 
 const STORE: LinePrefix = LinePrefix {
@@ -140,6 +145,7 @@ const STORE: LinePrefix = LinePrefix {
     letter: Letter::S,
     kind: Kind::Store,
     is_modify: false,
+    count: 1,
 };
 
 const MODIFY: LinePrefix = LinePrefix {
@@ -147,6 +153,7 @@ const MODIFY: LinePrefix = LinePrefix {
     letter: Letter::M,
     kind: Kind::Load,
     is_modify: true,
+    count: 2,
 };
 
 /// Prefix table by letter mod 8 (branch-free); unused slots hold FETCH.
@@ -159,6 +166,7 @@ pub(crate) fn front_of(text: &[u8]) -> Option<(&'static LinePrefix, &[u8])>
     ensures front { IfSome result (λ r. text.entry.now ≡ usual_front r.0.now.letter ++ r.1.now) }
     ensures kind { IfSome result (λ r. r.0.now.kind ≡ first_kind r.0.now.letter) }
     ensures modifies { IfSome result (λ r. r.0.now.is_modify ≡ is_modify r.0.now.letter) }
+    ensures count { IfSome result (λ r. r.0.now.count ≡ 1 + one_if (is_modify r.0.now.letter)) }
 {
     let front = &FRONTS[(text[1] % 8) as usize];
     if triple(text) == front.three {

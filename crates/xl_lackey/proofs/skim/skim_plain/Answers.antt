@@ -8,6 +8,7 @@ plain-init c = record {
   places = c.requires.places;
   end = c.requires.len;
   within = omega arith;
+  some = omega arith;
   few = omega arith;
 }
 
@@ -18,12 +19,16 @@ plain-preserved c =
     let near = c.in-Some.near in
     let old = c.plain in
     let put = c.put_near-end in
-    let line = subst (λ (t : List ℕ). IsRecordLine t near.used (read_of near)) (take_rest text old.used) c.in-Some.ensures in
+    let line = subst (λ (t : List ℕ). IsRecordLine t near.used (read_of near)) (take_rest text old.used) c.in-Some.ensures.line in
     record {
       runs = λ n h. subst (λ (xs : List Access). Skims n text first xs (skim_at n (old.used + near.used) (old.taken + 1))) (sym put.ensures.items)
           (skim_more n text first (take old.end old.slots) (read_of near) old.used old.taken near.used (old.invariant.runs n h) line);
       places = put.ensures.places ∙ old.invariant.places;
-      end = omega (arith, put.ensures.few, c.if-end.true);
+      end = omega (arith, put.ensures.few, c.plain-test.true, c.full_at-full.ensures.room);
       within = omega (arith, line.line.within, length-drop old.used text, old.invariant.within);
-      few = omega (arith, c.plain-test.true);
+      some = omega (arith, put.ensures.some, old.invariant.some);
+      few = omega (arith, c.plain-test.true, c.full_at-full.ensures.few, old.invariant.some);
     }
+
+pub returns-then-text-lt-NEAR-clause-runs : goal.returns-then-text-lt-NEAR-clause-runs
+returns-then-text-lt-NEAR-clause-runs c = λ n h. skim_none n c.args.text.now (take c.args.len c.args.slots.now) h

@@ -1,4 +1,4 @@
-use Rattle.xl_lackey.proofs.Common.{◌-◌, ◌≡◌, ◌≤◌, batch_size, length, Runs, take}
+use Rattle.xl_lackey.proofs.Common.{◌-◌, ◌+◌, ◌≡◌, ◌≤◌, batch_size, length, Runs, take}
 use Rattle.xl_lackey.proofs.skim.skim_plain.Given as goal
 
 abbrev pub invariant-plain : goal.invariant-plain
@@ -7,6 +7,7 @@ invariant-plain l = record {
   places : length l.slots ≡ batch_size;
   end : l.end ≤ batch_size;
   within : l.used ≤ length l.text;
+  some : l.len + l.taken ≤ l.end;
   few : l.taken ≤ l.most;
 }
 
