@@ -53,13 +53,12 @@ fn next_line(text: &[u8], from: usize) -> Option<(usize, Verdict)>
     ensures none { IfNone result (judged_line (drop from text.now) ≡ None) }
 {
     let rest = &text[from..];
-    if rest.len() < NEAR {
-        return far_line(rest);
+    if rest.len() >= NEAR {
+        if let Some(found) = near_line(rest) {
+            return Some(found);
+        }
     }
-    match near_line(rest) {
-        Some(found) => Some(found),
-        None => far_line(rest),
-    }
+    far_line(rest)
 }
 
 /// General reader, kept out of line.
