@@ -5,6 +5,9 @@ use Rattle.xl_cuckoo_walk.proofs.WalkLemmas.{cache_walked, fills_size, IsWalked,
 use Rattle.xl_model.specs.declared.address.Order.TheVariants as order
 use Rattle.xl_cuckoo_walk.specs.declared.plan.Plan.TheVariants as plan
 
+pub eq-one : (n : ℕ) → (n == 1) ≡ true → n ≡ 1
+eq-one n t = grind (arith, nat_tests)
+
 -- how the orders are probed
 pub small-plans : (middle large : ℕ) → middle % 8 ≡ 1 → large % 2 ≡ 1 → ArePlans (by_size middle large) (plans_by plan.Every plan.Skip plan.Skip)
 unfolding plan_of
@@ -100,3 +103,29 @@ module _ (back : MadeWordsReadBack) (p : RowParts) (r : IsRow p) (s page : ℕ) 
   middle-inside way are =
       plan-inside back p r s page space_in page_in order.M2 (plan.At way) (λ z. Some (words z)) (λ z. (in-front (plans_by plan.Skip (plan.At way) plan.Skip) are z).0)
       (are.are order.M2 (page_key order.M2 s page) (page_key order.G1 s page))
+
+-- where the words of both sections are found, and leave 4 KiB alone
+module _ (back : MadeWordsReadBack) (p : RowParts) (r : IsRow p) (s page : ℕ) (space_in : s < 64) (page_in : page < 2 ^ 45) (words : Size → ℕ)
+    (hit : (z : Size) → Some (words z) ≡ word_of_item (find (has_tag (page_key (order_of z) s page)) (size_in z p).cache.items)) where
+  pub touched-walked : ArePlans words (plans_by plan.Every plan.Skip plan.Skip) → (leaf : Option Leaf) (t : CuckooState) (u v : Cached Item)
+      → leaf ≡ leaf_said_by order.K4 s page (value_by plan.Every (page_key order.K4 s page) p.tables.k4.ways) → t ≡ probed plan.Every p.tables.k4
+      → u ≡ touched_in (page_key order.M2 s page) p.middle.cache → v ≡ touched_in (page_key order.G1 s page) p.large.cache
+      → IsWalked p s page leaf 2 (parts_by t p.tables.m2 p.tables.g1 p.middle.counts p.large.counts u v)
+  unfolding leaf_said_by
+  touched-walked are leaf t u v is after middle large =
+      let hits : Size → Option ℕ = λ z. Some (words z) in
+      let stays : (z : Size) (ways : List WayShape) → cache_walked p s page leaf hits z ways ≡ touched_in (page_key (order_of z) s page) (size_in z p).cache =
+      λ z ways. not-filled (fills_size z leaf) (words z) (page_key (order_of z) s page) _ (touched_in (page_key (order_of z) s page) (size_in z p).cache) in
+      let T : CuckooState → Cached Item → Cached Item → RowParts = λ x a b. parts_by x p.tables.m2 p.tables.g1 p.middle.counts p.large.counts a b in
+      steps-walked back p r s page space_in page_in leaf 2 (T t u v)
+      (record {
+        words = hits;
+        plans = plans_by plan.Every plan.Skip plan.Skip;
+        words_are = hit;
+        plans_are = λ o. are.are o (page_key order.M2 s page) (page_key order.G1 s page);
+        found_is = or-none leaf ∙ ap (λ o. or_leaf o None) is;
+        hits_are = refl;
+        after_is = ap (λ x. T x u v) after
+            ∙ ap (λ a. T (probed plan.Every p.tables.k4) a v) (middle ∙ sym (stays Middle p.tables.m2.ways))
+            ∙ ap (λ b. T (probed plan.Every p.tables.k4) (cache_walked p s page leaf hits Middle p.tables.m2.ways) b) (large ∙ sym (stays Large p.tables.g1.ways));
+      })

@@ -1,5 +1,5 @@
 -- Pages of which the sections in front of both caches leave one order alone.
-use Rattle.std.specs.Prelude.{ℕ, ◌≡◌, ◌<◌, Some}
+use Rattle.std.specs.Prelude.{ℕ, ◌≡◌, ◌<◌, Option, Some}
 use Rattle.xl_model.specs.declared.address.Order.{Order}
 use Rattle.xl_model.specs.declared.address.Order.TheVariants as order
 use Rattle.xl_cuckoo_walk.specs.declared.plan.Plan.{Plan}
@@ -27,3 +27,10 @@ abbrev pub IsSole : ℕ → ℕ → Sole → Type 0
 IsSole middle large sole.Small = ArePlans (by_size middle large) (plans_by plan.Every plan.Skip plan.Skip)
 IsSole middle large (sole.Middle way) = ArePlans (by_size middle large) (plans_by plan.Skip (plan.At way) plan.Skip)
 IsSole middle large sole.Unknown = Unit {0}
+
+-- Both sections of a page are cached, and leave 4 KiB alone.
+pub record AreSmall (middle large : Option ℕ) : Type 0 where
+  pub words : Size → ℕ
+  pub middle_is : middle ≡ Some (words Middle)
+  pub large_is : large ≡ Some (words Large)
+  pub plans : ArePlans words (plans_by plan.Every plan.Skip plan.Skip)

@@ -1,6 +1,7 @@
 //! Pages whose size the walk caches already determine.
 
-ghost use Rattle.xl_cuckoo_walk.specs.Soles.{IsSole};
+ghost use Rattle.std.specs.Prelude.{◌≡◌, true};
+ghost use Rattle.xl_cuckoo_walk.specs.Soles.{AreSmall, IsSole};
 
 /// The one order that is probed: 4 KiB in every way, or 2 MiB in one way. Else it is not known to
 /// be one.
@@ -24,4 +25,15 @@ pub(crate) fn sole_of(middle: u64, large: u64) -> Sole
         return Sole::Middle(middle / 8 - 1);
     }
     Sole::Unknown
+}
+
+/// Whether both sections of a page are cached, and leave 4 KiB as the one order that is possible.
+#[inline(always)]
+pub(crate) fn leave_small(middle: Option<u64>, large: Option<u64>) -> bool
+    ensures { result ≡ true → AreSmall middle large }
+{
+    match (middle, large) {
+        (Some(middle), Some(large)) => middle % 8 == 1 && large % 2 == 1,
+        _ => false,
+    }
 }

@@ -2,7 +2,7 @@
 
 ghost use Rattle.std.specs.Prelude.{◌≡◌};
 ghost use Rattle.xl_model.specs.PageWalks.{IsPageWalk, walk_of_page};
-ghost use Rattle.xl_model.specs.Structures.{IsPage, IsWalk};
+ghost use Rattle.xl_model.specs.Structures.{IsPage};
 ghost use Rattle.xl_tagged.specs.Slots.{small_known};
 ghost use Rattle.xl_cuckoo_walk.specs.Parts.{IsRow, row_state};
 
@@ -10,7 +10,7 @@ use crate::fill::{Sought, fill_if, fills_middle, one_hit};
 use crate::parts::Parts;
 use crate::plan::{Hits, Plan, planned};
 use crate::probe::{probe_next, probe_order, probe_small};
-use crate::sole::{Sole, sole_of};
+use crate::sole::{Sole, leave_small, sole_of};
 use xl_model::{Order, PageWalk, Walk};
 use xl_pte::words_read_back;
 use xl_sections::section;
@@ -63,25 +63,28 @@ pub(crate) fn walk_page<const D: usize>(parts: &mut Parts<D>, space: u16, page: 
                 },
             }
         }
-        Sole::Unknown => PageWalk::Any {
-            walk: walk_next(parts, space, page),
-        },
+        Sole::Unknown => walk_next(parts, space, page),
     }
 }
 
 /// The walk of any page: the cached sections of the page say which orders are possible, and in
 /// which way a large leaf is; the possible orders are probed, and sections are cached that weren't.
-fn walk_next<const D: usize>(parts: &mut Parts<D>, space: u16, page: u64) -> Walk
+/// Where both sections are cached and leave 4 KiB alone, only that is probed.
+fn walk_next<const D: usize>(parts: &mut Parts<D>, space: u16, page: u64) -> PageWalk
     requires whole { IsRow parts.old }
     requires page { IsPage (row_state parts.old).shape space page }
     ensures whole { IsRow parts.new }
-    ensures walks { IsWalk space page (row_state parts.old) result (row_state parts.new) }
+    ensures walks { IsPageWalk space page (row_state parts.old) result (row_state parts.new) }
 {
     words_read_back();
     let middle_key = section(space, page, Order::M2);
     let large_key = section(space, page, Order::G1);
     let middle = parts.middle_cache.touch(middle_key);
     let large = parts.large_cache.touch(large_key);
+    if leave_small(middle, large) {
+        let found = probe_small(&mut parts.k4, space, page);
+        return small_walk(space, page, found);
+    }
     let hits = Hits { middle, large };
     let k4_plan = planned(Order::K4, hits);
     let m2_plan = planned(Order::M2, hits);
@@ -111,8 +114,10 @@ fn walk_next<const D: usize>(parts: &mut Parts<D>, space: u16, page: u64) -> Wal
         &parts.large,
         &parts.g1,
     );
-    Walk {
-        leaf,
-        cache_hits: one_hit(middle) + one_hit(large),
+    PageWalk::Any {
+        walk: Walk {
+            leaf,
+            cache_hits: one_hit(middle) + one_hit(large),
+        },
     }
 }

@@ -114,12 +114,20 @@ fn side_of(words: &[u64], node: u32, key: u64) -> Side
     }
 }
 
-/// One step down from a node towards the place of a key.
+/// One step down from a node towards the place of a key. Both links are read in one word before one
+/// is chosen: a link read by its side would wait for the key.
+#[inline(always)]
 pub(crate) fn step_of(words: &[u64], node: u32, key: u64) -> u32
     requires { 4 * node + 4 ≤ length words.now }
     ensures { result ≡ step_at words.now node key }
 {
-    link_of(words, node, side_of(words, node, key))
+    let links = words[4 * node as usize + 3];
+    let (low, high) = (links % (1 << 32), links >> 32);
+    (if words[4 * node as usize] < key {
+        high
+    } else {
+        low
+    }) as u32
 }
 
 /// Gives a node its two links.

@@ -1,5 +1,7 @@
-use Rattle.xl_cuckoo_walk.proofs.Common.{◌+◌, ◌∙◌, ◌≡◌, ap, by_size, Cached, CuckooState, fills_m2, hit_of, is_some, IsRow, Item, Leaf, lit<, Middle, None, one_if, Option, or_leaf, Order, page_key, parts_by, Plan, plans_by, probed, refl, RowParts, Size, Some, subst, sym, ℕ}
-use Rattle.xl_cuckoo_walk.proofs.IndexLemmas.{each}
+use Rattle.xl_cuckoo_walk.proofs.Common.{◌+◌, ◌∙◌, ◌≡◌, ap, by_size, Cached, CuckooState, fills_m2, hit_of, is_some, IsRow, Item, Leaf, lit<, Middle, None, one_if, Option, or_leaf, Order, page_key, parts_by, Plan, plans_by, probed, refl, RowParts, Size, small_known, Some, subst, sym, touched_in, ℕ}
+use Rattle.xl_cuckoo_walk.proofs.IndexLemmas.{each, each-size}
+use Rattle.xl_cuckoo_walk.proofs.SoleLemmas.{touched-walked}
+use Rattle.xl_cuckoo_walk.specs.Soles.{AreSmall}
 use Rattle.xl_cuckoo_walk.proofs.WalkLemmas.{cache_walked, few-probed, filled-same, found-words, IsWalked, page-of, plan_in, probe-ready, said_in, steps-walked}
 use Rattle.xl_cuckoo_walk.proofs.walk.walk_next.Given.{Over}
 use Rattle.xl_model.specs.declared.address.Order.TheVariants as order
@@ -60,6 +62,36 @@ fill_if-requires-2 g c =
       few-probed c.args.parts.now (parts_by s.k4 s.m2 s.g1 s.middle s.large s.middle_cache s.large_cache) c.parts.view_is c.requires.whole order.G1 c.planned-g1_plan.result
           c.probe_next-leaf.new.table c.probe_next-leaf.ensures.after,
     )
+
+pub probe_small-found-requires : goal.probe_small-found-requires
+probe_small-found-requires g c = (lit< tt, page-of c.args.parts.now c.args.space c.args.page c.requires.page)
+
+small : (g : Over) (c : goal.After-small_walk g) →
+    let s = c.parts.inside in
+    IsWalked c.args.parts.now c.args.space c.args.page (small_known c.args.space c.args.page c.probe_small-found.result) 2
+    (parts_by c.probe_small-found.new.table s.m2 s.g1 s.middle s.large c.touch-middle.new.self c.touch-large.new.self)
+small g c =
+    let s = c.parts.inside in
+    let q : RowParts = parts_by s.k4 s.m2 s.g1 s.middle s.large s.middle_cache s.large_cache in
+    let space : ℕ = c.args.space in
+    let page : ℕ = c.args.page in
+    let in_page = page-of c.args.parts.now space page c.requires.page in
+    let leaf = small_known space page c.probe_small-found.result in
+    let are : AreSmall c.touch-middle.result c.touch-large.result = c.leave_small.ensures c.if-leave_small.true in
+    let words = found-words q space page c.section-middle_key.result c.section-large_key.result c.touch-middle.result c.touch-large.result
+    c.section-middle_key.ensures c.section-large_key.ensures c.touch-middle.ensures.found c.touch-large.ensures.found in
+    let said = each-size (λ z. Some (are.words z) ≡ by_size c.touch-middle.result c.touch-large.result z) (sym are.middle_is) (sym are.large_is) in
+    subst (λ p. IsWalked p space page leaf 2 (parts_by c.probe_small-found.new.table s.m2 s.g1 s.middle s.large c.touch-middle.new.self c.touch-large.new.self)) c.parts.view_is
+    (touched-walked c.words_read_back.ensures q (subst IsRow (sym c.parts.view_is) c.requires.whole) space page in_page.0 in_page.1 are.words (λ z. said z ∙ words z)
+    are.plans leaf c.probe_small-found.new.table c.touch-middle.new.self c.touch-large.new.self c.probe_small-found.ensures.found c.probe_small-found.ensures.after
+    (c.touch-middle.ensures.moved ∙ ap (λ k. touched_in k s.middle_cache) c.section-middle_key.ensures)
+    (c.touch-large.ensures.moved ∙ ap (λ k. touched_in k s.large_cache) c.section-large_key.ensures))
+
+pub returns-then-leave_small-clause-whole : goal.returns-then-leave_small-clause-whole
+returns-then-leave_small-clause-whole g c = (small g c).row
+
+pub returns-then-leave_small-clause-walks : goal.returns-then-leave_small-clause-walks
+returns-then-leave_small-clause-walks g c = rw c.small_walk.ensures (small g c).walks
 
 or-or : (a b d : Option Leaf) → or_leaf (or_leaf a b) d ≡ or_leaf a (or_leaf b d)
 or-or None b d = refl
