@@ -4,7 +4,7 @@ ghost use Rattle.std.specs.Prelude.{◌≡◌, ◌≢◌, ℕ, ◌∷◌, ◌<�
 ghost use Rattle.std.specs.List.{remove};
 ghost use Rattle.std.specs.Fn.{FnReturnsAt};
 ghost use Rattle.xl_model.specs.Recency.{purged};
-ghost use Rattle.xl_recency.specs.Lists.{IsTest, Touches, Fills};
+ghost use Rattle.xl_recency.specs.Lists.{AllFail, IsTest, Touches, Fills};
 ghost use Rattle.xl_recency.specs.Marks.{AreMarked, AreSlots, has_tag, in_order, IsFirstTag, item_in, item_mark, LacksTag, mark_of as mark_of_tag};
 
 use crate::item::{BLANK, Item};
@@ -231,6 +231,28 @@ pub(crate) fn fill_item<const W: usize>(
         return None;
     }
     Some(left)
+}
+
+/// Whether one of the first `len` items passes the test.
+pub(crate) fn any_passes<const W: usize, P: Fn(&Item) -> bool>(
+    slots: &[u8; W],
+    items: &[Item; W],
+    len: usize,
+    test: &P,
+) -> bool
+    requires fits { len ≤ W }
+    requires test { P.IsAlwaysCallable test.now }
+    requires slots { AreSlots W slots.now }
+    ensures { result ≡ false → AllFail (FnReturnsAt P.Fn test.now)
+        (take len (in_order items.now slots.now)) }
+{
+    for place in 0..len {
+        let item = items[slots[place] as usize];
+        if test(&item) {
+            return true;
+        }
+    }
+    false
 }
 
 /// The items in the order of their slots.
