@@ -10,12 +10,13 @@ ghost use Rattle.xl_recency.specs.Marks.{AreMarked, AreSlots, has_tag, in_order,
 use crate::item::{BLANK, Item};
 use crate::kernel::keep_failing;
 
-/// The mark of a tag.
+/// The mark of a tag, by a shift and a sum: of tags that count pages, and spaces below them, those
+/// near one another have different marks.
 #[inline(always)]
 pub(crate) fn mark_of(tag: u64) -> u8
     ensures { result ≡ mark_of_tag tag }
 {
-    (tag % 251) as u8
+    ((tag / 64 % 256 + tag % 256) % 256) as u8
 }
 
 /// The first place from `from` on that has the mark, or 255 where none has. All are looked at: a
