@@ -1,9 +1,8 @@
 -- Marks and slots in order: bytes that are written one by one, and a place that comes to the front.
-use Rattle.xl_recency.proofs.Common.{if◌then◌else◌, ◌+◌, ◌-◌, ◌<◌, ◌==◌, ◌∙◌, ◌∷◌, ◌≡◌, ◌≢◌, ◌≤◌, [], ap, arith, Bool, cases_lt, ext_get_or, false, Fills, find, get_or, get_or-map, get_or-remove_above, get_or-remove_below, get_or-set_other, get_or-set_same, get_or-take, get_or_default, inl, inr, length, length-map, length-remove, length-take-le, List, map, nat_lt, nat_tests, None, Option, purged, Purges, refl, remove, set, Some, suc, sym, take, Touches, true, zero, ℕ}
-use Rattle.xl_recency.proofs.FrontLemmas.{filled-full, filled-more, put-within}
+use Rattle.xl_recency.proofs.Common.{if◌then◌else◌, ◌+◌, ◌-◌, ◌<◌, ◌==◌, ◌∙◌, ◌∷◌, ◌≡◌, ◌≢◌, ◌≤◌, [], ap, arith, Bool, cases_lt, ext_get_or, false, find, get_or, get_or-map, get_or-remove_above, get_or-remove_below, get_or-set_other, get_or-set_same, get_or-take, get_or_default, inl, inr, length, length-map, length-remove, length-take-le, List, map, nat_lt, nat_tests, None, purged, Purges, refl, remove, set, Some, suc, sym, take, Touches, true, zero, ℕ}
 use Rattle.xl_recency.proofs.ScanLemmas.{find_at, find_none, without_at, without_none}
 use Rattle.xl_recency.specs.declared.item.Item.{Item}
-use Rattle.xl_recency.specs.Marks.{AreMarked, AreSlots, has_tag, in_order, IsFirstTag, item_in, item_mark, LacksTag, mark_of}
+use Rattle.xl_recency.specs.Marks.{AreSlots, has_tag, in_order, IsFirstTag, item_in, item_mark, LacksTag, mark_of}
 
 -- one more of some items is written
 pub written : {A : Type 0} (xs : List A) (at : ℕ) (x d : A) (f : ℕ → A) → at < length xs → x ≡ f at → ((k : ℕ) → k < at → get_or xs k d ≡ f k)
@@ -162,11 +161,11 @@ order_filled n items slots item some same wide are =
     let fewer = length-remove slots (n - 1) within in
     ap (λ (x : Item). x ∷ in_order (set items slot item) (remove slots last)) (get_or-set_same items slot item blank inside)
     ∙ ap (λ (xs : List Item). item ∷ xs) (
-      others_stay items slot item (remove slots last) (λ k l e.
-        let before : k < n - 1 = omega (arith, l, fewer) in
-        let k_is : k ≡ n - 1 = are.apart k (n - 1) (omega arith) below (sym (get_or-remove_below slots (n - 1) 0 k before within) ∙ e) in
-        absurd (omega arith))
-      ∙ map_remove (item_in items) slots last)
+    others_stay items slot item (remove slots last) (λ k l e.
+    let before : k < n - 1 = omega (arith, l, fewer) in
+    let k_is : k ≡ n - 1 = are.apart k (n - 1) (omega arith) below (sym (get_or-remove_below slots (n - 1) 0 k before within) ∙ e) in
+    absurd (omega arith))
+    ∙ map_remove (item_in items) slots last)
 
 -- slots in turn
 pub order_in_turn : (items : List Item) (slots : List ℕ) → length items ≡ length slots → ((k : ℕ) → k < length slots → get_or slots k 0 ≡ k)

@@ -1,5 +1,5 @@
 -- Items in slots, and the order of the slots: what lists keep whose items stay in their places.
-use Rattle.std.specs.Prelude.{◌≡◌, ℕ, ◌%◌, ◌<◌, ◌==◌, Bool, true, false, List, length, map, slice_index_or}
+use Rattle.std.specs.Prelude.{◌≡◌, ℕ, ◌+◌, ◌/◌, ◌%◌, ◌<◌, ◌==◌, Bool, true, false, List, length, map, slice_index_or}
 use Rattle.xl_recency.specs.declared.item.Item.{Item}
 
 -- The item has this tag.
@@ -8,7 +8,7 @@ has_tag tag i = i.tag == tag
 
 -- The mark of a tag: one byte, by which most tags are told apart.
 abbrev pub mark_of : ℕ → ℕ
-mark_of tag = tag % 251
+mark_of tag = (tag / 64 % 256 + tag % 256) % 256
 
 -- The mark of an item.
 abbrev pub item_mark : Item → ℕ

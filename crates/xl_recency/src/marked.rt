@@ -6,7 +6,9 @@ ghost use Rattle.xl_recency.specs.Lists.{IsTest, Touches, Fills, Purges};
 ghost use Rattle.xl_recency.specs.Marks.{has_tag};
 
 use crate::item::{BLANK, Item};
-use crate::marks::{fill_item, find_tag, keep_items, marks_of, slots_in_turn, touch_tag};
+use crate::marks::{
+    any_passes, fill_item, find_tag, keep_items, marks_of, slots_in_turn, touch_tag,
+};
 use std::alloc::Global;
 use std::marker::Model;
 use xl_model::NoMemory;
@@ -103,6 +105,9 @@ impl<const W: usize> Marked<W> {
         ensures count { result + length self.new ≡ length self.old }
         ensures most { result ≤ W }
     {
+        if !any_passes(&self.slots, &self.items, self.len, test) {
+            return 0;
+        }
         let before = self.len;
         self.len = keep_items(
             &mut self.marks,

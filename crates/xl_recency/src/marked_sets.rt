@@ -30,10 +30,7 @@ impl<const W: usize> Model for MarkedSets<W> {
 }
 
 /// Removes the items of every set that pass the test. Returns how many it removed.
-fn remove_from_each<const W: usize, P: Fn(&Item) -> bool>(
-    sets: &mut [Marked<W>],
-    test: &P,
-) -> u64
+fn remove_from_each<const W: usize, P: Fn(&Item) -> bool>(sets: &mut [Marked<W>], test: &P) -> u64
     requires width { W ≤ 64 }
     requires fits { length sets.old ≤ 2 ^ 32 }
     requires test { P.IsAlwaysCallable test.now }

@@ -4,18 +4,19 @@ ghost use Rattle.std.specs.Prelude.{◌≡◌, ◌≢◌, ℕ, ◌∷◌, ◌<�
 ghost use Rattle.std.specs.List.{remove};
 ghost use Rattle.std.specs.Fn.{FnReturnsAt};
 ghost use Rattle.xl_model.specs.Recency.{purged};
-ghost use Rattle.xl_recency.specs.Lists.{IsTest, Touches, Fills};
+ghost use Rattle.xl_recency.specs.Lists.{AllFail, IsTest, Touches, Fills};
 ghost use Rattle.xl_recency.specs.Marks.{AreMarked, AreSlots, has_tag, in_order, IsFirstTag, item_in, item_mark, LacksTag, mark_of as mark_of_tag};
 
 use crate::item::{BLANK, Item};
 use crate::kernel::keep_failing;
 
-/// The mark of a tag.
+/// The mark of a tag, by a shift and a sum: of tags that count pages, and spaces below them, those
+/// near one another have different marks.
 #[inline(always)]
 pub(crate) fn mark_of(tag: u64) -> u8
     ensures { result ≡ mark_of_tag tag }
 {
-    (tag % 251) as u8
+    ((tag / 64 % 256 + tag % 256) % 256) as u8
 }
 
 /// The first place from `from` on that has the mark, or 255 where none has. All are looked at: a
@@ -231,6 +232,28 @@ pub(crate) fn fill_item<const W: usize>(
         return None;
     }
     Some(left)
+}
+
+/// Whether one of the first `len` items passes the test.
+pub(crate) fn any_passes<const W: usize, P: Fn(&Item) -> bool>(
+    slots: &[u8; W],
+    items: &[Item; W],
+    len: usize,
+    test: &P,
+) -> bool
+    requires fits { len ≤ W }
+    requires test { P.IsAlwaysCallable test.now }
+    requires slots { AreSlots W slots.now }
+    ensures { result ≡ false → AllFail (FnReturnsAt P.Fn test.now)
+        (take len (in_order items.now slots.now)) }
+{
+    for place in 0..len {
+        let item = items[slots[place] as usize];
+        if test(&item) {
+            return true;
+        }
+    }
+    false
 }
 
 /// The items in the order of their slots.

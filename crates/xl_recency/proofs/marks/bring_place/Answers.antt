@@ -1,6 +1,6 @@
-use Rattle.xl_recency.proofs.Common.{◌<◌, ◌∙◌, ap, arith, length, List, map, sym, ℕ}
+use Rattle.xl_recency.proofs.Common.{◌<◌, ◌∙◌, ap, arith, length, map, sym}
 use Rattle.xl_recency.proofs.MarkLemmas.{marks_front, order_front, order_length, slots_front}
-use Rattle.xl_recency.specs.Marks.{AreSlots, in_order, item_mark}
+use Rattle.xl_recency.specs.Marks.{in_order, item_mark}
 use Rattle.xl_recency.proofs.marks.bring_place.Goals as goal
 
 pub returns-clause-front : goal.returns-clause-front

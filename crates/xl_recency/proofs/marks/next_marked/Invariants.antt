@@ -1,4 +1,4 @@
-use Rattle.xl_recency.proofs.Common.{◌<◌, ◌≡◌, ◌≢◌, ◌≤◌, get_or, ℕ}
+use Rattle.xl_recency.proofs.Common.{◌<◌, ◌≢◌, ◌≤◌, get_or, ℕ}
 use Rattle.xl_recency.proofs.marks.next_marked.Given as goal
 
 abbrev pub invariant-loop-place : goal.invariant-loop-place

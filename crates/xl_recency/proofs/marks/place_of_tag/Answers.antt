@@ -1,6 +1,6 @@
-use Rattle.xl_recency.proofs.Common.{◌∙◌, ◌+◌, ◌<◌, ◌==◌, ◌≡◌, ◌≤◌, ap, arith, false, length, true}
+use Rattle.xl_recency.proofs.Common.{◌∙◌, ◌+◌, ◌≡◌, ap, arith, false}
 use Rattle.std.proofs.lemmas.Bool.Decides.{nat_tests}
-use Rattle.xl_recency.proofs.MarkLemmas.{first_taken, lacks_taken, order_length, order_read, tag_passed, tags_passed}
+use Rattle.xl_recency.proofs.MarkLemmas.{order_length, order_read, tag_passed, tags_passed}
 use Rattle.xl_recency.specs.Marks.{has_tag, in_order, item_in}
 use Rattle.xl_recency.proofs.marks.place_of_tag.Goals as goal
 
