@@ -34,7 +34,7 @@ pub fn pointed(word: u64) -> Option<u64>
     ensures small { IfSome result (λ next. next < 2 ^ 44) }
 {
     if word % 16 == 1 && word >> 54 == 0 {
-        Some(word >> 10)
+        Some(word / 1024)
     } else {
         None
     }
