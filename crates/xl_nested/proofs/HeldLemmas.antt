@@ -1,5 +1,5 @@
 -- A list of leaves of one order is looked through for one tag.
-use Rattle.xl_nested.proofs.Common.{◌%◌, ◌∙◌, ◌∷◌, ◌≡◌, [], ap, arith, Bool, Cached, empty_cache, find, has_tag, In, in_front, inl, inr, is_among, IsHeld, Item, level_of, List, nat_tests, newest-In, None, Option, Order, purged, purged-In, refl, same-tests, subst, sym, tag_of, touched, touched-In, with_newest, without_first, ℕ}
+use Rattle.xl_nested.proofs.Common.{◌%◌, ◌∙◌, ◌∷◌, ◌≡◌, [], ap, arith, Bool, Cached, empty_cache, find, has_tag, In, in_front, inl, inr, is_among, IsHeld, Item, level_of, List, nat_tests, newest-In, None, Option, Order, purged, purged-In, refl, same-tests, subst, sym, tag_of, touched, touched-In, with_newest, without_first, ℕ, Some, true, find-passes}
 use Rattle.xl_recency.specs.Lists.{Touches}
 use Rattle.xl_nested.specs.declared.g_cache.Held.{Held}
 use Rattle.xl_model.specs.declared.address.Order.TheVariants as order
@@ -32,6 +32,13 @@ pub touches_only : (g : ℕ) (o : Order) (old new : List Item) (result : Option 
     → Touches (is_among (tag_of g order.K4) (tag_of g order.M2) (tag_of g order.G1)) old new result
 touches_only g o old new result all t =
     touches-same (has_tag (tag_of g o)) (is_among (tag_of g order.K4) (tag_of g order.M2) (tag_of g order.G1)) old new result (λ i m. only-among g o i (all i m)) t
+
+-- an item that is found by its tag
+pub touches_word : (tag : ℕ) (old new : List Item) (i : Item) → Touches (has_tag tag) old new (Some i) → Touches (has_tag tag) old new (Some (record { tag = tag; word = i.word }))
+touches_word tag old new i t =
+    let h : has_tag tag i ≡ true = find-passes (has_tag tag) i old (sym t.found) in
+    let e : i.tag ≡ tag = grind (arith, nat_tests) in
+    subst (λ (n : ℕ). Touches (has_tag tag) old new (Some (record { tag = n; word = i.word }))) e t
 
 pub touches_none : (q : Item → Bool) (items : List Item) → items ≡ [] → Touches q items items None
 touches_none q items e = subst (λ (xs : List Item). Touches q xs xs None) (sym e) (record { found = refl; moved = refl })

@@ -1,5 +1,5 @@
 -- A stage by its table.
-use Rattle.xl_nested.proofs.Common.{◌∙◌, ◌≡◌, ◌≤◌, ap, AreApart, arith, changed, Err, false, Insert, is_ok, IsAsAdded, IsPage, IsServed, Leaf, List, meets_any, NestRefusal, number_of, Ok, OnErr, OnOk, refl, Result, room_rule, Shape, shape_after, Some, Stage, stage_after, stage_of, subst, sym, Table, up, with_leaf, WordsReadBack, ℕ}
+use Rattle.xl_nested.proofs.Common.{◌∙◌, ◌≡◌, ap, AreApart, arith, changed, Err, false, Insert, is_ok, IsAsAdded, IsPage, IsServed, Leaf, List, meets_any, NestRefusal, number_of, Ok, OnErr, OnOk, refl, Result, room_rule, Shape, shape_after, Some, Stage, stage_after, stage_of, subst, sym, Table, up, with_leaf, WordsReadBack, ℕ}
 use Rattle.xl_model.specs.Room.{has_room}
 use Rattle.xl_radix.specs.Steps.{shape_of}
 use Rattle.xl_nested.proofs.ApartLemmas.{apart-added}

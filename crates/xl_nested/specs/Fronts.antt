@@ -1,12 +1,13 @@
 -- The blocks of guest pages of the G cache's two newest leaves, which are looked at before its list.
-use Rattle.std.specs.Prelude.{ℕ, ◌≡◌, ◌+◌, ◌-◌, ◌*◌, ◌^◌, ◌<◌, ◌≤◌, ◌⊎◌, nat_le, nat_lt, Bool, true, false, ◌&&◌, List, [], ◌∷◌, find, Option, None, Some, IfSome}
+use Rattle.std.specs.Prelude.{ℕ, ◌≡◌, ◌+◌, ◌-◌, ◌*◌, ◌^◌, ◌<◌, ◌≤◌, ◌⊎◌, nat_le, nat_lt, Bool, true, false, ◌&&◌, List, [], ◌∷◌, find, map, Option, None, Some, IfSome}
 use Rattle.xl_model.specs.declared.leaf.Leaf.{Leaf}
 use Rattle.xl_model.specs.Caches.{Cached}
 use Rattle.xl_model.specs.Recency.{touched}
 use Rattle.xl_nested_model.specs.Stages.{covers_guest, host_page}
 use Rattle.xl_nested.specs.declared.block.Block.{Block}
 use Rattle.xl_nested.specs.declared.front_cache.Fronts.{Fronts}
-use Rattle.xl_nested.specs.Coding.{IsFound, IsPageWord}
+use Rattle.xl_recency.specs.declared.item.Item.{Item}
+use Rattle.xl_nested.specs.Coding.{leaf_of, IsFound, IsPageWord}
 
 -- The block has this guest page.
 abbrev pub has_page : Block → ℕ → Bool
@@ -34,6 +35,14 @@ IsFoundBlock None None = Unit {0}
 IsFoundBlock None (Some leaf) = ⊥
 IsFoundBlock (Some b) None = ⊥
 IsFoundBlock (Some b) (Some leaf) = IsBlockOf b leaf
+
+-- A guest page was looked for in a list: the block of the leaf that covers it is found where one does, and the leaf is
+-- the newest.
+pub record IsTouchedBlock (g : ℕ) (block : Option Block) (old new : Cached Item) : Type 0 where
+  pub found : IsFoundBlock block (find (covers_guest g) (map leaf_of old.items))
+  pub moved : map leaf_of new.items ≡ touched (covers_guest g) (map leaf_of old.items)
+  pub width : new.width ≡ old.width
+  pub small : IfSome block IsSmallBlock
 
 -- Leaves with the second in front of the first.
 abbrev pub exchanged : List Leaf → List Leaf

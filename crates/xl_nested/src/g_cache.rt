@@ -1,6 +1,6 @@
 //! The G cache: a recency list of leaves of the host's table.
 
-ghost use Rattle.std.specs.Prelude.{ℕ, ◌≡◌, ◌^◌, ◌<◌, ◌≤◌, ◌+◌, ◌*◌, ◌/◌, ◌%◌, true, find, IfOk, IfSome};
+ghost use Rattle.std.specs.Prelude.{ℕ, ◌≡◌, ◌^◌, ◌<◌, ◌≤◌, ◌+◌, ◌*◌, ◌/◌, ◌%◌, true, find, None, Some, IfNone, IfOk, IfSome};
 ghost use Rattle.xl_model.specs.declared.address.Order.TheVariants as order;
 ghost use Rattle.xl_model.specs.Addresses.{level_of, order_at, pages_of};
 ghost use Rattle.xl_model.specs.Caches.{Cached, empty_cache};
@@ -12,9 +12,9 @@ ghost use Rattle.xl_recency.specs.declared.item.Item.{Item};
 ghost use Rattle.xl_recency.specs.Lists.{Fills, Purges, Touches};
 ghost use Rattle.xl_recency.specs.Widths.{IsWidth};
 ghost use Rattle.xl_list_lemmas.specs.Members.{In};
-ghost use Rattle.xl_nested.specs.Coding.{has_tag, is_among, leaf_of, tag_of as number_of, IsHeld, IsKeepable};
+ghost use Rattle.xl_nested.specs.Coding.{has_tag, is_among, leaf_of, tag_of as number_of, IsGCache, IsHeld, IsKeepable};
 ghost use Rattle.xl_nested.specs.Commands.{IsPlace};
-ghost use Rattle.xl_nested.specs.Fronts.{IsBlockOf, IsFoundBlock, IsSmallBlock};
+ghost use Rattle.xl_nested.specs.Fronts.{IsBlockOf, IsFoundBlock, IsSmallBlock, IsTouchedBlock};
 ghost use Rattle.xl_nested.specs.declared.g_cache.Held.TheVariants as orders;
 
 use crate::block::Block;
@@ -143,6 +143,33 @@ fn touch_tag(list: &mut Cache<Item>, tag: u64) -> Option<Item>
     list.touch(|item| item.tag == tag)
 }
 
+/// Does what `touch_tag` does, and gives the item's word alone: a call would return the item
+/// through memory.
+#[inline(never)]
+fn touch_word(list: &mut Cache<Item>, tag: u64) -> Option<u64>
+    ensures some { IfSome result (λ word. Touches (has_tag tag) list.old.items list.new.items
+        (Some (record { tag = tag; word = word }))) }
+    ensures none { IfNone result (Touches (has_tag tag) list.old.items list.new.items None) }
+    ensures width { list.new.width ≡ list.old.width }
+{
+    let Some(item) = touch_tag(list, tag) else {
+        return None;
+    };
+    Some(item.word)
+}
+
+/// Does what `touch_tag` does, by a call.
+#[inline(always)]
+fn touch_called(list: &mut Cache<Item>, tag: u64) -> Option<Item>
+    ensures touched { Touches (has_tag tag) list.old.items list.new.items result }
+    ensures width { list.new.width ≡ list.old.width }
+{
+    match touch_word(list, tag) {
+        Some(word) => Some(Item { tag, word }),
+        None => None,
+    }
+}
+
 /// Touches the newest item whose leaf covers a guest page, in a list of leaves of any order.
 #[inline(always)]
 fn touch_any(list: &mut Cache<Item>, guest_page: u64) -> Option<Item>
@@ -174,8 +201,37 @@ fn touch_page(list: &mut Cache<Item>, held: Held, guest_page: u64) -> Option<Ite
     match held {
         Held::Off => None,
         Held::Nothing => None,
-        Held::Only(order) => touch_tag(list, tag_of(guest_page, order)),
+        Held::Only(order) => touch_called(list, tag_of(guest_page, order)),
         Held::Several => touch_any(list, guest_page),
+    }
+}
+
+/// Touches the newest item whose leaf covers a guest page, and gives the block of the leaf.
+#[inline(always)]
+fn touch_held(list: &mut Cache<Item>, held: Held, guest_page: u64) -> Option<Block>
+    requires page { guest_page < 2 ^ 29 }
+    requires kept { IsGCache held list.old }
+    ensures touched { IsTouchedBlock guest_page result list.old list.new }
+    ensures kept { IsGCache held list.new }
+{
+    let Some(item) = touch_page(list, held, guest_page) else {
+        return None;
+    };
+    Some(block_of(item, order_in(held, item), guest_page))
+}
+
+/// Does what `touch_held` does. Most lists have leaves of 4 KiB alone: with that order as a
+/// constant, no order is asked for, and the block is the page.
+#[inline(always)]
+fn touch_block(list: &mut Cache<Item>, held: Held, guest_page: u64) -> Option<Block>
+    requires page { guest_page < 2 ^ 29 }
+    requires kept { IsGCache held list.old }
+    ensures touched { IsTouchedBlock guest_page result list.old list.new }
+    ensures kept { IsGCache held list.new }
+{
+    match held {
+        Held::Only(Order::K4) => touch_held(list, Held::Only(Order::K4), guest_page),
+        _ => touch_held(list, held, guest_page),
     }
 }
 
@@ -279,10 +335,7 @@ impl GCache {
         ensures width { self.new.width ≡ self.old.width }
         ensures small { IfSome result IsSmallBlock }
     {
-        let Some(item) = touch_page(&mut self.list, self.held, guest_page) else {
-            return None;
-        };
-        Some(block_of(item, order_in(self.held, item), guest_page))
+        touch_block(&mut self.list, self.held, guest_page)
     }
 
     /// Fills the list with a leaf.

@@ -28,12 +28,16 @@ fn number_pointed(word: u64) -> Option<u64>
 /// The node that a word points to at a level above 0: V is set, and neither R, W, X nor a reserved
 /// bit is.
 #[inline(always)]
+#[tactic(auto, unfolding(xl_pte::specs::Decode::decode_of))]
 pub fn pointed(word: u64) -> Option<u64>
     ensures said { IfSome result (Points word) }
     ensures small { IfSome result (λ next. next < 2 ^ 44) }
 {
-    let next = number_pointed(word)?;
-    if next >> 44 == 0 { Some(next) } else { None }
+    if word % 16 == 1 && word >> 54 == 0 {
+        Some(word / 1024)
+    } else {
+        None
+    }
 }
 
 /// The word at level 0 that the walk of a page from `node` of level `start` ends at. `words` are

@@ -12,4 +12,4 @@ returns-in-Nothing-clause-touched c = let h : IsHeld held.Nothing c.args.list.no
 pub returns-in-Only-clause-touched : goal.returns-in-Only-clause-touched
 returns-in-Only-clause-touched c =
     let h : IsHeld (held.Only c.in-Only.order) c.args.list.now = rw c.in-Only.is at c.requires.orders in
-    touches_only c.args.guest_page c.in-Only.order c.args.list.now.items c.touch_tag.new.list.items c.touch_tag.result h (rw c.tag_of.ensures.value at c.touch_tag.ensures.touched)
+    touches_only c.args.guest_page c.in-Only.order c.args.list.now.items c.touch_called.new.list.items c.touch_called.result h (rw c.tag_of.ensures.value at c.touch_called.ensures.touched)
