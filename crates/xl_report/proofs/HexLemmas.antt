@@ -1,6 +1,9 @@
 -- The hexadecimal digits of a number, made of its bytes side by side.
-use Rattle.xl_report.proofs.Common.{if◌then◌else◌, ◌%◌, ◌++◌, ◌+◌, ◌/◌, ◌<◌, ◌^◌, ◌∙◌, ◌∷◌, ◌≡◌, [], ap, ap₂, arith, bit_and, digits_l, Each1, halves_of, hex_digits, hex_glyph, length, List, map, map-append, nat_le, nat_lt, nat_tests, pick_l, refl, replicate, sel_l, suc, top, zero, zip2, ℕ}
+use Rattle.xl_report.proofs.Common.{◌%◌, ◌++◌, ◌+◌, ◌/◌, ◌<◌, ◌^◌, ◌∙◌, ◌∷◌, ◌≡◌, [], ap, ap₂, arith, bit_and, digits_l, Each1, hex_digits, hex_glyph, length, List, map, map-append, pick_l, refl, replicate, sel_l, suc, top, zero, zip2, ℕ}
+use Rattle.std.proofs.lemmas.Bool.Decides.{nat_tests}
 use Rattle.std.proofs.lemmas.Nat.{and_mask}
+use Rattle.std.specs.Prelude.{if◌then◌else◌, nat_le, nat_lt}
+use Rattle.xl_report.specs.Halves.{halves_of}
 
 -- a fact of any eight elements is one of a list of eight
 by_eight : (P : List ℕ → Type 0) → ((a b c d e f g h : ℕ) → P (a ∷ b ∷ c ∷ d ∷ e ∷ f ∷ g ∷ h ∷ [])) → (xs : List ℕ) → length xs ≡ 8 → P xs

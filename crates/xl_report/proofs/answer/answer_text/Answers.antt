@@ -1,7 +1,5 @@
-use Rattle.xl_report.proofs.Common.{◌++◌, ◌∙◌, ◌≡◌, [], ap, append-nil, ap₂, arith, codes, decimal, drop, List, with_reply, ℕ}
-use Rattle.std.proofs.lemmas.List.{drop_all}
+use Rattle.xl_report.proofs.Common.{◌++◌, ◌∙◌, ◌≡◌, [], ap, append-nil, ap₂, arith, codes, decimal, drop, drop_all, hex16, kind_letter, List, with_reply, ℕ}
 use Rattle.xl_report.proofs.AnswerLemmas.{joined, reply_alone}
-use Rattle.xl_model.specs.Lines.{hex16, kind_letter}
 unfoldable use Rattle.xl_model.specs.Lines.{answer_line}
 use Rattle.xl_report.proofs.answer.answer_text.Goals as goal
 

@@ -1,5 +1,4 @@
-use Rattle.xl_report.proofs.Common.{◌++◌, ◌+◌, ◌-◌, ◌<◌, ◌∙◌, ◌∷◌, ◌≡◌, add-one, ap, arith, drop, drop-cons, length, length-append, List, refl, slice_index, suc, sym, with_more_arrays, ℕ}
-use Rattle.std.specs.Prelude.{codes, decimal}
+use Rattle.xl_report.proofs.Common.{◌++◌, ◌+◌, ◌-◌, ◌<◌, ◌∙◌, ◌∷◌, ◌≡◌, add-one, ap, arith, codes, decimal, drop, drop-cons, length, length-append, List, refl, slice_index, suc, sym, with_more_arrays, ℕ}
 use Rattle.xl_report.proofs.row.arrays.Goals as goal
 
 -- One array more.
