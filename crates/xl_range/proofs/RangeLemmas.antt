@@ -1,8 +1,6 @@
 -- Ranges that come back from their items, and lists of items as lists of ranges.
-use Rattle.xl_range.proofs.Common.{◌%◌, ◌*◌, ◌+◌, ◌/◌, ◌<◌, ◌^◌, ◌∙◌, ◌∷◌, ◌≡◌, [], In, inl, inr, nat_tests, newest-In, purged-In, same-tests, subst, touched-In, ap, arith, Bool, Cached, find, find-none, find-some, IsKeepable, item_of_range, level_of, List, map, newest-map, None, Option, Order, order_at, purged, purged-map, Range, range_kept, range_of, refl, Some, sym, touched, touched-map, with_fill, with_newest, with_touch, without_items, ℕ}
-use Rattle.xl_model.proofs.CodeLemmas.{frame-back, perm-back}
-use Rattle.xl_model.specs.Recency.{without_first}
-use Rattle.xl_range.specs.RangeCoding.{AllWithin, IsWithin, item_at, item_holds, ranges_of}
+use Rattle.xl_range.proofs.Common.{◌%◌, ◌*◌, ◌+◌, ◌/◌, ◌<◌, ◌^◌, ◌∙◌, ◌∷◌, ◌≡◌, [], AllWithin, ap, arith, Bool, Cached, find, find-none, find-some, frame-back, In, inl, inr, IsKeepable, IsWithin, item_at, item_holds, item_of_range, level_of, List, map, nat_tests, newest-In, newest-map, None, Option, Order, order_at, perm-back, purged, purged-In, purged-map, Range, range_kept, range_of, refl, same-tests, Some, subst, sym, touched, touched-In, touched-map, with_fill, with_newest, with_touch, without_first, without_items, ℕ}
+use Rattle.xl_range.specs.RangeCoding.{ranges_of}
 use Rattle.xl_range.specs.declared.range_coding.RangeItem.{RangeItem}
 use Rattle.xl_model.specs.declared.address.Order.TheVariants as order
 

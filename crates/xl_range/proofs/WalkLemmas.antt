@@ -1,9 +1,7 @@
 -- A walk and a fence of the table: what they keep, answer and leave.
-use Rattle.xl_range.proofs.Common.{◌%◌, ◌*◌, ◌-◌, ◌/◌, ◌≤◌, pages_of, ◌+◌, ◌<◌, ◌^◌, ◌∙◌, ◌≡◌, ◌⊎◌, ap, arith, Bool, Cached, caches_fenced, fence_answer, find, find-In, find-passes, holds_page, In, inl, inr, IsAt, IsFence, IsFit, IsFresh, IsKeepable, IsRow, IsTable, IsWalk, Leaf, leaf_at_page, leaf_by, leaf_in, length, List, nat_tests, newest-In, None, Option, purged, purged-In, Range, range_reads, range_walk_by, RangeCache, ranges_of, reaches_range, refl, row_of, Some, spread, subst, sym, table_fenced, table_walked, TableState, touched-In, touched-none, TreapView, true, walk_answer, walked, with_fill, with_touch, without_items, ℕ}
+use Rattle.xl_range.proofs.Common.{◌%◌, ◌*◌, ◌+◌, ◌-◌, ◌/◌, ◌<◌, ◌^◌, ◌∙◌, ◌≡◌, ◌≤◌, ◌⊎◌, ap, arith, Bool, Cached, caches_fenced, fence_answer, find, find-In, find-passes, frame-back, holds_page, In, inl, inr, IsAt, IsFence, IsFit, IsFresh, IsKeepable, IsRow, IsTable, IsWalk, Leaf, leaf_at_page, leaf_by, leaf_in, length, List, nat_tests, newest-In, None, Option, pages_of, perm-back, purged, purged-In, Range, range_reads, range_walk_by, RangeCache, ranges_of, reaches_range, refl, row_of, Some, spread, subst, sym, table_fenced, table_walked, TableState, touched-In, touched-none, TreapView, true, walk_answer, walked, with_fill, with_touch, without_items, ℕ}
 use Rattle.xl_model.specs.Base.{plus}
 use Rattle.xl_model.specs.LeafWords.{perm_code, small_leaf}
-use Rattle.xl_model.specs.declared.address.Order.TheVariants as order
-use Rattle.xl_model.proofs.CodeLemmas.{frame-back, perm-back}
 use Rattle.xl_model.specs.Walks.{with_range}
 use Rattle.xl_model.specs.declared.event.Reach.{Reach}
 use Rattle.xl_model.specs.declared.work.Walk.{Walk}
@@ -11,6 +9,7 @@ use Rattle.xl_range.proofs.FindLemmas.{at-page, held-fresh, leaf-found}
 use Rattle.xl_range.proofs.HoldLemmas.{fit-range}
 use Rattle.xl_range.proofs.RunLemmas.{ranges-spread}
 use Rattle.xl_range.proofs.TouchLemmas.{In-range}
+use Rattle.xl_model.specs.declared.address.Order.TheVariants as order
 
 -- A walk of the row: what it keeps, returns and leaves.
 pub record IsRowWalk (space page n : ℕ) (t new : TreapView) (k left : Cached Range) (result : Walk) : Type 0 where

@@ -1,5 +1,5 @@
-//! How a range is kept in an item of a recency list: the tag is its key, and one word has its frame,
-//! its order and its permission.
+//! How a range is kept in an item of a recency list: its key is the tag, and one word has its
+//! frame, its order and its permission.
 
 ghost use Rattle.std.specs.Prelude.{◌≡◌, ◌<◌, ◌≤◌, ◌^◌, ◌+◌, ◌*◌, ◌/◌, ◌%◌};
 ghost use Rattle.xl_model.specs.Ranges.{holds_page};

@@ -1,6 +1,5 @@
-use Rattle.xl_range.proofs.Common.{◌∙◌, ap, holds_page, without_items}
+use Rattle.xl_range.proofs.Common.{◌∙◌, ap, holds_page, item_holds, without_items}
 use Rattle.xl_range.proofs.RangeLemmas.{purged_within, ranges_dropped}
-use Rattle.xl_range.specs.RangeCoding.{item_holds}
 use Rattle.xl_range.proofs.range_list.RangeList.drop_page.Goals as goal
 
 pub returns-clause-after : goal.returns-clause-after

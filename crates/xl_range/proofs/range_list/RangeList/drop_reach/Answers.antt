@@ -1,6 +1,5 @@
-use Rattle.xl_range.proofs.Common.{◌∙◌, ap, reaches_range, without_items}
+use Rattle.xl_range.proofs.Common.{◌∙◌, ap, item_reached, reaches_range, without_items}
 use Rattle.xl_range.proofs.RangeLemmas.{purged_within, ranges_dropped}
-use Rattle.xl_range.specs.RangeCoding.{item_reached}
 use Rattle.xl_range.proofs.range_list.RangeList.drop_reach.Goals as goal
 
 pub returns-clause-after : goal.returns-clause-after

@@ -1,6 +1,5 @@
-use Rattle.xl_range.proofs.Common.{◌∙◌, ◌≡◌, ap, Cached, find, holds_page, None, Range, Some, sym, with_touch}
+use Rattle.xl_range.proofs.Common.{◌∙◌, ◌≡◌, ap, Cached, find, holds_page, item_at, None, Range, Some, sym, with_touch}
 use Rattle.xl_range.proofs.RangeLemmas.{key_found, key_touched, range_found, range_touched, touched_within}
-use Rattle.xl_range.specs.RangeCoding.{item_at}
 use Rattle.xl_range.proofs.range_list.RangeList.look.Goals as goal
 
 pub returns-in_default-clause-found : goal.returns-in_default-clause-found
