@@ -182,8 +182,8 @@ impl PrefixCache {
         }
     }
 
-    /// How many lines to read whether their pages are kept or not, after `kept` lines of kept pages:
-    /// one, or many where those are few, since a branch on which line's page is kept is then
+    /// How many lines to read whether their pages are kept or not, after `kept` lines of kept
+    /// pages: one, or many where those are few, since a branch on which line's page is kept is then
     /// predicted badly; twice as many each time that they are few again.
     #[inline(always)]
     pub(crate) fn plain_lines(&mut self, kept: u64) -> u64 {
