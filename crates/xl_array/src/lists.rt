@@ -10,7 +10,7 @@ use std::marker::Model;
 use xl_model::NoMemory;
 use xl_recency::{Item, MarkedSets, Sets};
 
-/// Sets of recency lists of at most `W` items each. Where `W` is above sixteen they are lists of
+/// Sets of recency lists of at most `W` items each. Where `W` is above 32 they are lists of
 /// marks, in which a search and a move cost the same wherever the item is: half the instructions
 /// of an access. The width is known when the program is compiled, so that the choice costs nothing,
 /// and one of the two has no sets. Contracts see the list of the sets' lists, newest first each.
@@ -36,7 +36,7 @@ impl<const W: usize> Lists<W> {
         requires { W ≤ 64 }
         ensures { IfOk result (λ lists. lists ≡ replicate count []) }
     {
-        let few = if W <= 16 { count } else { 0 };
+        let few = if W <= 32 { count } else { 0 };
         Ok(Lists {
             few: Sets::open(alloc, few)?,
             many: MarkedSets::open(alloc, count - few)?,
@@ -51,7 +51,7 @@ impl<const W: usize> Lists<W> {
         requires set { set < length self.old }
         ensures { TouchesIn (has_tag tag) set self.old self.new result }
     {
-        if W <= 16 {
+        if W <= 32 {
             return self.few.touch(set, |item| item.tag == tag);
         }
         self.many.touch(set, tag)
@@ -63,7 +63,7 @@ impl<const W: usize> Lists<W> {
         requires set { set < length self.now }
         ensures { result ≡ find (has_tag tag) (slice_index_or self.now set []) }
     {
-        if W <= 16 {
+        if W <= 32 {
             return self.few.find(set, |item| item.tag == tag);
         }
         self.many.find(set, tag)
@@ -78,7 +78,7 @@ impl<const W: usize> Lists<W> {
         requires set { set < length self.old }
         ensures { FillsIn W set item self.old self.new result }
     {
-        if W <= 16 {
+        if W <= 32 {
             return self.few.fill(set, item);
         }
         self.many.fill(set, item)
@@ -92,7 +92,7 @@ impl<const W: usize> Lists<W> {
         ensures gone { PurgesIn (has_tag tag) set self.old self.new result }
         ensures most { result ≤ 64 }
     {
-        if W <= 16 {
+        if W <= 32 {
             return self.few.remove_in(set, |item| item.tag == tag);
         }
         self.many.remove_tag(set, tag)
@@ -109,7 +109,7 @@ impl<const W: usize> Lists<W> {
         ensures count { result + items_in self.new ≡ items_in self.old }
         ensures most { result ≤ 64 }
     {
-        if W <= 16 {
+        if W <= 32 {
             return self.few.remove_in(set, test);
         }
         self.many.remove_in(set, test)
@@ -125,7 +125,7 @@ impl<const W: usize> Lists<W> {
         ensures count { result + items_in self.new ≡ items_in self.old }
         ensures most { result ≤ 64 * length self.old }
     {
-        if W <= 16 {
+        if W <= 32 {
             return self.few.remove_where(test);
         }
         self.many.remove_where(test)

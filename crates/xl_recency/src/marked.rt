@@ -13,7 +13,7 @@ use std::alloc::Global;
 use std::marker::Model;
 use xl_model::NoMemory;
 
-/// A recency list of at most `W` items, for more than sixteen: each item stays in its slot, and of
+/// A recency list of at most `W` items, for more than 32: each item stays in its slot, and of
 /// each place a mark, a byte of its item's tag, and the slot's number move. So a search compares
 /// bytes, sixteen at a time, and a move costs the same wherever the item was. Contracts see the
 /// list, newest first.

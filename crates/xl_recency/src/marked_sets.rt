@@ -1,4 +1,4 @@
-//! Recency lists of one width above sixteen, by number.
+//! Recency lists of one width above 32, by number.
 
 ghost use Rattle.std.specs.Prelude.{◌≡◌, ◌+◌, ◌*◌, ◌^◌, ◌<◌, ◌≤◌, [], length, find, replicate, slice_index_or, IfOk};
 ghost use Rattle.std.specs.Fn.{FnReturnsAt};
@@ -11,7 +11,7 @@ use std::alloc::Global;
 use std::marker::Model;
 use xl_model::NoMemory;
 
-/// Sets of at most `W` items each, for more than sixteen. Contracts see the list of the sets' lists,
+/// Sets of at most `W` items each, for more than 32. Contracts see the list of the sets' lists,
 /// newest first each.
 #[derive(Drop)]
 pub struct MarkedSets<const W: usize> {
