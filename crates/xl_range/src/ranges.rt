@@ -121,8 +121,9 @@ impl Ranges {
         &self.treap
     }
 
-    /// A walk that looks through the whole range TLB, and then goes down the treap.
-    #[inline(never)]
+    /// A walk that looks through the whole range TLB, and then goes down the treap. Inlined, since
+    /// the leaf that it returns would go through memory.
+    #[inline(always)]
     fn walk_next(&mut self, space: u16, page: u64) -> PageWalk
         requires { IsPage (row_table self.old).shape space page }
         ensures { IsPageWalk space page (row_table self.old) result (row_table self.new) }
@@ -145,7 +146,7 @@ impl Ranges {
     }
 
     /// A walk that asks for the newest range of the range TLB first.
-    #[inline]
+    #[inline(always)]
     fn walk_newest(&mut self, space: u16, page: u64) -> PageWalk
         requires { IsPage (row_table self.old).shape space page }
         ensures walks { IsPageWalk space page (row_table self.old) result (row_table self.new) }
