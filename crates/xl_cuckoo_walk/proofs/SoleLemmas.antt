@@ -5,9 +5,6 @@ use Rattle.xl_cuckoo_walk.proofs.WalkLemmas.{cache_walked, fills_size, IsWalked,
 use Rattle.xl_model.specs.declared.address.Order.TheVariants as order
 use Rattle.xl_cuckoo_walk.specs.declared.plan.Plan.TheVariants as plan
 
-pub eq-one : (n : ℕ) → (n == 1) ≡ true → n ≡ 1
-eq-one n t = grind (arith, nat_tests)
-
 -- how the orders are probed
 pub small-plans : (middle large : ℕ) → middle % 8 ≡ 1 → large % 2 ≡ 1 → ArePlans (by_size middle large) (plans_by plan.Every plan.Skip plan.Skip)
 unfolding plan_of

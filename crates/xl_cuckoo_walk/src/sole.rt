@@ -32,8 +32,8 @@ pub(crate) fn sole_of(middle: u64, large: u64) -> Sole
 pub(crate) fn leave_small(middle: Option<u64>, large: Option<u64>) -> bool
     ensures { result ≡ true → AreSmall middle large }
 {
-    match (middle, large) {
-        (Some(middle), Some(large)) => middle % 8 == 1 && large % 2 == 1,
-        _ => false,
-    }
+    let (Some(middle), Some(large)) = (middle, large) else {
+        return false;
+    };
+    matches!(sole_of(middle, large), Sole::Small)
 }
