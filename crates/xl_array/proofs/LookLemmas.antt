@@ -3,7 +3,8 @@ use Rattle.xl_array.proofs.Common.{◌<◌, ◌∙◌, ◌∷◌, ◌≡◌, [],
 unfoldable use Rattle.xl_model.specs.Tlb.{array_touched}
 use Rattle.xl_model.specs.Tlb.{covers_as, found_as, set_number, takes_order, TlbArray}
 use Rattle.std.proofs.Math.ListN.{get_or-map}
-use Rattle.xl_array.specs.Coding.{has_tag, leaves_of}
+use Rattle.xl_array.specs.Coding.{leaves_of}
+use Rattle.xl_recency.specs.Marks.{has_tag}
 use Rattle.xl_array.specs.Arrays.{IsArray}
 use Rattle.xl_recency.specs.declared.item.Item.{Item}
 use Rattle.xl_model.specs.declared.leaf.Leaf.{Leaf}

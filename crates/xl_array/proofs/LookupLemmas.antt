@@ -1,8 +1,7 @@
 -- What stays known of an array that was touched or filled with a tag.
-use Rattle.xl_array.proofs.Common.{◌∙◌, ap, Bool, leaves_in_sets, Option, Order, refl, small_leaf, sym, TlbArray, TlbSpec, ℕ}
+use Rattle.xl_array.proofs.Common.{◌∙◌, ap, Bool, filled-spec, leaves_in_sets, Option, Order, refl, small_leaf, sym, TlbArray, TlbSpec, ℕ}
 use Rattle.xl_array.proofs.HeldLemmas.{word-held}
 use Rattle.xl_array.proofs.SmallLemmas.{filled-small, word-small}
-use Rattle.xl_model.proofs.ArrayLemmas.{filled-spec}
 use Rattle.xl_array.proofs.SpecLemmas.{spec_word}
 use Rattle.xl_array.specs.Held.{Counts, IsKnown}
 use Rattle.xl_array.specs.Lookup.{IsFilled, IsTouched}

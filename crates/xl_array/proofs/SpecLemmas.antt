@@ -1,10 +1,6 @@
 -- An array keeps its spec.
-use Rattle.xl_array.proofs.Common.{◌∙◌, ◌≡◌, ap, None, Option, Some, TlbArray, ℕ}
+use Rattle.xl_array.proofs.Common.{◌∙◌, ◌≡◌, ap, leaf_with, None, Option, Order, Some, TlbArray, touched-spec, word_touched, ℕ}
 use Rattle.std.specs.Option.{IfNone, IfSome}
-use Rattle.xl_array.specs.Hits.{word_touched}
-use Rattle.xl_model.proofs.ArrayLemmas.{touched-spec}
-use Rattle.xl_model.specs.LeafWords.{leaf_with}
-use Rattle.xl_model.specs.declared.address.Order.{Order}
 
 pub spec_word : (space page : ℕ) (order : Order) (o : Option ℕ) (a b : TlbArray) → IfSome o (λ w. b ≡ word_touched space page order w a) → IfNone o (b ≡ a) → b.spec ≡ a.spec
 spec_word space page order None a b h n = ap (λ (z : TlbArray). z.spec) n

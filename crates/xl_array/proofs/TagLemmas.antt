@@ -1,5 +1,5 @@
 -- What a tag says: one space, block and order, for each number.
-use Rattle.xl_array.proofs.Common.{◌%◌, ◌&&◌, ◌*◌, ◌+◌, ◌/◌, ◌<◌, ◌==◌, ◌∙◌, ◌≡◌, ap, arith, Bool, covers_anywhere_as, covers_as, has_block, is_leaf, Item, nat_le, nat_lt, refl, sym, ℕ}
+use Rattle.xl_array.proofs.Common.{◌%◌, ◌&&◌, ◌*◌, ◌+◌, ◌/◌, ◌<◌, ◌==◌, ◌∙◌, ◌≡◌, ap, arith, covers_anywhere_as, covers_as, has_block, is_leaf, Item, nat_le, nat_lt, refl, sym, ℕ}
 use Rattle.xl_list_lemmas.proofs.MemberLemmas.{same-tests}
 use Rattle.xl_model.proofs.CodeLemmas.{at-level, level-at}
 unfoldable use Rattle.xl_array.specs.Coding.{leaf_of, tag_of}

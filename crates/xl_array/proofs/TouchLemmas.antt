@@ -1,11 +1,9 @@
 -- A leaf of 4 KiB that is touched or filled is in front of its set.
-use Rattle.xl_array.proofs.Common.{◌%◌, ◌&&◌, ◌*◌, ◌/◌, ◌<◌, ◌∙◌, ◌∷◌, ◌≡◌, ◌≤◌, [], ap, arith, Bool, false, find, get_or, length, List, None, Option, refl, set, Some, subst, suc, sym, take, true, zero, ℕ}
+use Rattle.xl_array.proofs.Common.{◌%◌, ◌*◌, ◌/◌, ◌<◌, ◌∙◌, ◌∷◌, ◌≡◌, [], ap, arith, Bool, false, find, get_or, length, List, None, Option, refl, set, Some, subst, suc, sym, take, true, zero, ℕ}
 unfoldable use Rattle.xl_model.specs.Tlb.{array_filled, array_hit, array_touched}
-use Rattle.xl_model.specs.Tally.{counted, one_more_where}
-use Rattle.xl_model.specs.Tlb.{covers_as, filled_where, first_found, found_as, serves_kind, set_at, set_number, takes_order, TlbArray, where_taken}
+use Rattle.xl_model.specs.Tlb.{covers_as, filled_where, first_found, found_as, set_at, set_number, takes_order, TlbArray, where_taken}
 use Rattle.std.proofs.lemmas.List.{get_or-set_same, set-get_or}
 use Rattle.xl_array.specs.Touches.{IsFrontHit, IsTouch}
-use Rattle.xl_model.specs.declared.address.Kind.{Kind}
 use Rattle.xl_model.specs.declared.leaf.Leaf.{Leaf}
 use Rattle.std.proofs.lemmas.Bool.Decides.{nat_tests}
 use Rattle.xl_model.specs.LeafWords.{small_leaf}

@@ -1,7 +1,6 @@
 -- The result of a look at an array: the word of a leaf of the space that covers the page.
 use Rattle.std.specs.Prelude.{ℕ, Option, None, Some}
 use Rattle.xl_model.specs.declared.address.Order.{Order}
-use Rattle.xl_model.specs.declared.address.Order.TheVariants as order
 use Rattle.xl_model.specs.declared.leaf.Leaf.{Leaf}
 use Rattle.xl_model.specs.Tlb.{TlbArray, array_touched}
 use Rattle.xl_array.specs.declared.coding.Hit.{Hit}
@@ -10,10 +9,6 @@ use Rattle.xl_model.specs.LeafWords.{leaf_with}
 -- The leaf that was hit.
 abbrev pub leaf_hit : ℕ → ℕ → Hit → Leaf
 leaf_hit space page h = leaf_with space page h.order h.word
-
--- What is hit where the leaf of 4 KiB with this word is.
-abbrev pub small_hit : ℕ → Hit
-small_hit word = record { word = word; order = order.K4 }
 
 -- The leaf that was hit, if one was.
 abbrev pub hit_leaf : ℕ → ℕ → Option Hit → Option Leaf

@@ -4,6 +4,5 @@ pub mod Coding
 pub mod Equal
 pub mod Held
 pub mod Hits
-pub mod Lists
 pub mod Lookup
 pub mod Touches

@@ -1,7 +1,7 @@
 //! A TLB array of a width that is known when the program runs.
 
 ghost use Rattle.std.specs.Prelude.{ℕ, true, false, is_some, ◌≡◌, ◌<◌, ◌≤◌, ◌^◌, ◌+◌, ◌*◌, ◌%◌, None, IfSome, IfNone, IfOk};
-ghost use Rattle.xl_model.specs.Tlb.{array_touched, array_filled, array_hit, first_found, found_as, opening_array, serves_kind, takes_order, is_purged, reaches_leaf, array_without, leaves_in_sets};
+ghost use Rattle.xl_model.specs.Tlb.{array_filled, array_hit, first_found, found_as, opening_array, serves_kind, takes_order, is_purged, reaches_leaf, array_without, leaves_in_sets};
 ghost use Rattle.xl_model.specs.declared.address.Order.TheVariants as order_of;
 ghost use Rattle.xl_model.specs.declared.row.Serves.TheVariants as serves_of;
 ghost use Rattle.xl_model.specs.Base.{one_if};
@@ -10,7 +10,7 @@ ghost use Rattle.xl_array.specs.Arrays.{IsCommon, IsFit, InLimits};
 ghost use Rattle.xl_array.specs.Lookup.{IsAt, IsFilled, IsLookup, IsTouched};
 ghost use Rattle.xl_array.specs.Touches.{IsFrontHit, IsPageTouch, LacksSmall};
 ghost use Rattle.xl_model.specs.LeafWords.{small_leaf};
-ghost use Rattle.xl_array.specs.Held.{Counts, Smalls};
+ghost use Rattle.xl_array.specs.Held.{Counts};
 ghost use Rattle.xl_array.specs.Hits.{hit_leaf, leaf_hit, hit_touched, word_leaf, word_touched};
 ghost use Rattle.xl_recency.specs.Widths.{IsWidth};
 

@@ -1,16 +1,14 @@
 //! One TLB array.
 
-ghost use Rattle.std.specs.Prelude.{is_some, true, None, ◌≡◌, ◌<◌, ◌≤◌, ◌^◌, ◌+◌, ◌*◌, ◌/◌, ◌%◌, find, length, map, slice_index_or, slice_set, [], IfSome, IfNone, IfOk};
+ghost use Rattle.std.specs.Prelude.{is_some, true, None, ◌≡◌, ◌<◌, ◌≤◌, ◌^◌, ◌+◌, ◌*◌, ◌/◌, ◌%◌, find, length, map, IfSome, IfNone, IfOk};
 ghost use Rattle.xl_model.specs.Base.{one_if};
 ghost use Rattle.xl_model.specs.Ranges.{same_perm as is_same_perm};
-ghost use Rattle.xl_model.specs.LeafWords.{perm_at};
 ghost use Rattle.xl_model.specs.Mapping.{covers};
-ghost use Rattle.xl_model.specs.Recency.{touched, purged};
-ghost use Rattle.xl_recency.specs.Lists.{PurgesAll, PurgesIn, TouchesIn};
+ghost use Rattle.xl_recency.specs.Lists.{PurgesAll, PurgesIn};
 ghost use Rattle.xl_array.specs.Hits.{word_leaf, hit_leaf, leaf_hit, word_touched, hit_touched};
-ghost use Rattle.xl_array.specs.Coding.{has_tag, has_block, has_space, is_item};
+ghost use Rattle.xl_array.specs.Coding.{has_block, has_space, is_item};
 ghost use Rattle.xl_array.specs.Arrays.{IsFit, InLimits, is_same, is_of_space, is_any, covers_anywhere, covers_anywhere_as};
-ghost use Rattle.xl_model.specs.Tlb.{covers_as, found_as, set_number, array_touched, array_filled, array_hit, opening_array, takes_order, array_without, is_purged, reaches_leaf, first_found, leaves_in_sets};
+ghost use Rattle.xl_model.specs.Tlb.{covers_as, found_as, array_filled, array_hit, opening_array, takes_order, array_without, is_purged, reaches_leaf, first_found, leaves_in_sets};
 ghost use Rattle.xl_model.specs.declared.address.Order.TheVariants as order;
 ghost use Rattle.xl_array.specs.Equal.{is_equal, keeps_leaf};
 ghost use Rattle.xl_array.specs.Held.{Smalls};
@@ -18,13 +16,12 @@ ghost use Rattle.xl_array.specs.Lookup.{IsAt, IsFilled, IsTouched};
 ghost use Rattle.xl_array.specs.Touches.{IsPageTouch, LacksSmall};
 
 use crate::coding::{Hit, hit_of, page_word, tag_of};
-use crate::lists::Lists;
 use crate::lookup::Lookup;
 use crate::places::Places;
 use std::alloc::Global;
 use std::marker::Model;
 use xl_model::{Leaf, NoMemory, Order, Perm, Purge, Reach, TlbSpec, perm_of};
-use xl_recency::Item;
+use xl_recency::{Item, Sets};
 
 /// What a fill did: whether the array takes the leaf's order, and whether it holds a leaf more.
 #[derive(Clone, Copy)]
@@ -43,7 +40,7 @@ const NOT_TAKEN: Filled = Filled {
 #[derive(Drop)]
 pub struct Array<const W: usize> {
     spec: Places,
-    sets: Lists<W>,
+    sets: Sets<W>,
 }
 
 impl<const W: usize> Model for Array<W> {
@@ -57,36 +54,6 @@ impl<const W: usize> Model for Array<W> {
     ghost view = { λ a. record { spec = a.spec; sets = map leaves_of a.sets } };
 
     ghost invariant = { λ a. IsArray a.spec (map leaves_of a.sets) W };
-}
-
-/// Moves the newest item of the set with this tag to the front. Inlined, since the item that it
-/// returns would go through memory.
-#[inline(always)]
-fn touch_tag<const W: usize>(sets: &mut Lists<W>, set: usize, tag: u64) -> Option<Item>
-    requires width { W ≤ 64 }
-    requires set { set < length sets.old }
-    ensures { TouchesIn (has_tag tag) set sets.old sets.new result }
-{
-    sets.touch(set, tag)
-}
-
-/// The newest item of the set with this tag.
-fn find_tag<const W: usize>(sets: &Lists<W>, set: usize, tag: u64) -> Option<Item>
-    requires width { W ≤ 64 }
-    requires set { set < length sets.now }
-    ensures { result ≡ find (has_tag tag) (slice_index_or sets.now set []) }
-{
-    sets.find(set, tag)
-}
-
-/// Removes the items of the set with this tag.
-fn drop_tag<const W: usize>(sets: &mut Lists<W>, set: usize, tag: u64) -> u64
-    requires width { W ≤ 64 }
-    requires set { set < length sets.old }
-    ensures gone { PurgesIn (has_tag tag) set sets.old sets.new result }
-    ensures most { result ≤ 64 }
-{
-    sets.remove_tag(set, tag)
 }
 
 /// Two permissions are the same.
@@ -105,7 +72,7 @@ fn keeps(item: &Item, tag: u64, frame: u64, perm: Perm) -> bool
 
 /// Removes the items of the set that keep the leaf with this tag, frame and permission.
 fn drop_kept<const W: usize>(
-    sets: &mut Lists<W>,
+    sets: &mut Sets<W>,
     set: usize,
     tag: u64,
     frame: u64,
@@ -120,7 +87,7 @@ fn drop_kept<const W: usize>(
 }
 
 /// Removes the items of the set with this tag in whatever space; the tag names space 0.
-fn drop_block<const W: usize>(sets: &mut Lists<W>, set: usize, tag: u64) -> u64
+fn drop_block<const W: usize>(sets: &mut Sets<W>, set: usize, tag: u64) -> u64
     requires width { W ≤ 64 }
     requires set { set < length sets.old }
     ensures gone { PurgesIn (has_block tag) set sets.old sets.new result }
@@ -130,7 +97,7 @@ fn drop_block<const W: usize>(sets: &mut Lists<W>, set: usize, tag: u64) -> u64
 }
 
 /// Removes the items of a space.
-fn drop_of_space<const W: usize>(sets: &mut Lists<W>, space: u16) -> u64
+fn drop_of_space<const W: usize>(sets: &mut Sets<W>, space: u16) -> u64
     requires width { W ≤ 64 }
     ensures gone { PurgesAll (has_space space) sets.old sets.new result }
     ensures most { result ≤ 64 * length sets.old }
@@ -139,7 +106,7 @@ fn drop_of_space<const W: usize>(sets: &mut Lists<W>, space: u16) -> u64
 }
 
 /// Removes all items.
-fn drop_each<const W: usize>(sets: &mut Lists<W>) -> u64
+fn drop_each<const W: usize>(sets: &mut Sets<W>) -> u64
     requires width { W ≤ 64 }
     ensures gone { PurgesAll is_item sets.old sets.new result }
     ensures most { result ≤ 64 * length sets.old }
@@ -156,7 +123,7 @@ impl<const W: usize> Array<W> {
         requires most { W ≤ 64 }
         ensures { IfOk result (λ array. array ≡ opening_array spec) }
     {
-        let sets = Lists::open(alloc, spec.sets)?;
+        let sets = Sets::open(alloc, spec.sets)?;
         Ok(Array {
             spec: Places::of(spec),
             sets,
@@ -169,7 +136,7 @@ impl<const W: usize> Array<W> {
         requires { IsAt _order set lookup self.old.spec }
         ensures { IsTouched _order lookup self.old result self.new }
     {
-        let Some(item) = touch_tag(&mut self.sets, set, lookup.tag) else {
+        let Some(item) = self.sets.touch(set, lookup.tag) else {
             return None;
         };
         Some(item.word)
@@ -292,7 +259,7 @@ impl<const W: usize> Array<W> {
         }
         let set = self.spec.set_of(page, order);
         let tag = tag_of(space, page, order);
-        let Some(_item) = find_tag(&self.sets, set, tag) else {
+        let Some(_item) = self.sets.find(set, tag) else {
             return false;
         };
         true
@@ -353,7 +320,7 @@ impl<const W: usize> Array<W> {
     {
         let set = self.spec.set_of(leaf.first, leaf.order);
         let tag = tag_of(leaf.space, leaf.first, leaf.order);
-        drop_tag(&mut self.sets, set, tag)
+        self.sets.remove_tag(set, tag)
     }
 
     /// Drops the leaf where the array holds it as it is, with its frame and its permission, and
@@ -409,7 +376,7 @@ impl<const W: usize> Array<W> {
     {
         let set = self.spec.set_of(page, order);
         let tag = tag_of(space, page, order);
-        drop_tag(&mut self.sets, set, tag)
+        self.sets.remove_tag(set, tag)
     }
 
     /// Drops the leaves of the order that cover the page in any space, and gives how many items

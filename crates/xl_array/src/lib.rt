@@ -4,7 +4,6 @@
 mod any;
 mod array;
 mod coding;
-mod lists;
 mod lookup;
 mod places;
 

@@ -1,8 +1,6 @@
 -- Marks and slots in order: bytes that are written one by one, and a place that comes to the front.
-use Rattle.xl_recency.proofs.Common.{if◌then◌else◌, ◌+◌, ◌-◌, ◌<◌, ◌==◌, ◌∙◌, ◌∷◌, ◌≡◌, ◌≢◌, ◌≤◌, [], ap, arith, Bool, cases_lt, ext_get_or, false, find, get_or, get_or-map, get_or-remove_above, get_or-remove_below, get_or-set_other, get_or-set_same, get_or-take, get_or_default, inl, inr, length, length-map, length-remove, length-take-le, List, map, nat_lt, nat_tests, None, purged, Purges, refl, remove, set, Some, suc, sym, take, Touches, true, zero, ℕ}
+use Rattle.xl_recency.proofs.Common.{if◌then◌else◌, ◌+◌, ◌-◌, ◌<◌, ◌==◌, ◌∙◌, ◌∷◌, ◌≡◌, ◌≢◌, ◌≤◌, [], ap, AreSlots, arith, Bool, cases_lt, ext_get_or, false, find, get_or, get_or-map, get_or-remove_above, get_or-remove_below, get_or-set_other, get_or-set_same, get_or-take, get_or_default, has_tag, in_order, inl, inr, IsFirstTag, Item, item_in, item_mark, LacksTag, length, length-map, length-remove, length-take-le, List, map, mark_of, nat_lt, nat_tests, None, purged, Purges, refl, remove, set, Some, suc, sym, take, Touches, true, zero, ℕ}
 use Rattle.xl_recency.proofs.ScanLemmas.{find_at, find_none, without_at, without_none}
-use Rattle.xl_recency.specs.declared.item.Item.{Item}
-use Rattle.xl_recency.specs.Marks.{AreSlots, has_tag, in_order, IsFirstTag, item_in, item_mark, LacksTag, mark_of}
 
 -- one more of some items is written
 pub written : {A : Type 0} (xs : List A) (at : ℕ) (x d : A) (f : ℕ → A) → at < length xs → x ≡ f at → ((k : ℕ) → k < at → get_or xs k d ≡ f k)
@@ -188,20 +186,6 @@ other_tag tag i n = go (i.tag == tag) refl
     go : (b : Bool) → (i.tag == tag) ≡ b → (i.tag == tag) ≡ false
     go true e = let same : i.tag ≡ tag = grind (arith, nat_tests) in absurd (n (ap mark_of same))
     go false e = e
-
-pub first_taken : (tag at len : ℕ) (xs : List Item) → at < len → has_tag tag (item_in xs at) ≡ true
-    → ((k : ℕ) → k < at → has_tag tag (item_in xs k) ≡ false) → IsFirstTag tag at (take len xs)
-first_taken tag at len xs l has before =
-    let blank : Item = record { tag = 0; word = 0 } in
-    record {
-      has = ap (has_tag tag) (get_or-take len xs at blank l) ∙ has;
-      before = λ k m. ap (has_tag tag) (get_or-take len xs k blank (omega arith)) ∙ before k m;
-    }
-
-pub lacks_taken : (tag len : ℕ) (xs : List Item) → len ≤ length xs → ((k : ℕ) → k < len → has_tag tag (item_in xs k) ≡ false) → LacksTag tag (take len xs)
-lacks_taken tag len xs fits before = λ k m.
-    let below : k < len = rw (length-take-le len xs fits) at m in
-    ap (has_tag tag) (get_or-take len xs k (record { tag = 0; word = 0 }) below) ∙ before k below
 
 module _ (tag at len : ℕ) (xs : List Item) (fits : len ≤ length xs) (l : at < len) (first : IsFirstTag tag at (take len xs)) where
   inside : at < length (take len xs)

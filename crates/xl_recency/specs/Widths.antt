@@ -1,5 +1,5 @@
--- The widths of recency lists, and a list of one of them.
-use Rattle.std.specs.Prelude.{ℕ, IsTrue, List}
+-- The widths of recency lists, a list of one of them, and the form of lists of one width.
+use Rattle.std.specs.Prelude.{ℕ, nat_lt, if◌then◌else◌, IsTrue, List}
 use Rattle.xl_model.specs.Caches.{Cached}
 use Rattle.xl_model.specs.Rows.{is_width}
 
@@ -10,3 +10,7 @@ IsWidth width = IsTrue (is_width width)
 -- A list of items of this width.
 abbrev pub cached : {T : Type 0} → ℕ → List T → Cached T
 cached width items = record { width = width; items = items }
+
+-- Of two lists the second where the width is above 32, else the first.
+abbrev pub of_width : {T : Type 0} → ℕ → List T → List T → List T
+of_width width few many = if nat_lt 32 width then many else few

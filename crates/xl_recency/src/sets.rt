@@ -3,48 +3,35 @@
 ghost use Rattle.std.specs.Prelude.{◌≡◌, ◌+◌, ◌*◌, ◌^◌, ◌<◌, ◌≤◌, [], length, find, replicate, slice_index_or, IfOk};
 ghost use Rattle.std.specs.Fn.{FnReturnsAt};
 ghost use Rattle.xl_recency.specs.Lists.{IsTest, items_in, TouchesIn, FillsIn, PurgesIn, PurgesAll};
+ghost use Rattle.xl_recency.specs.Marks.{has_tag};
 
 use crate::item::{BLANK, Item};
+use crate::marked::Marked;
 use crate::ways::Ways;
 use std::alloc::Global;
 use std::marker::Model;
 use xl_model::NoMemory;
 
-/// Sets of at most `W` items each. Contracts see the list of the sets' lists, newest first each.
+/// Sets of at most `W` items each. Where `W` is above 32 they are lists of marks, in which a
+/// search and a move cost the same wherever the item is: half the instructions of an access. The
+/// width is known when the program is compiled, so that the choice costs nothing, and one of the
+/// two has no lists. Contracts see the list of the sets' lists, newest first each.
 #[derive(Drop)]
 pub struct Sets<const W: usize> {
-    sets: Vec<Ways<Item, W>>,
+    few: Vec<Ways<Item, W>>,
+    many: Vec<Marked<W>>,
 }
 
 impl<const W: usize> Model for Sets<W> {
     ghost use Rattle.std.specs.Prelude.{List, length, ◌≤◌, ◌^◌};
     ghost use Rattle.xl_recency.specs.declared.item.Item.{Item};
+    ghost use Rattle.xl_recency.specs.Widths.{of_width};
 
     ghost Value = { List (List Item) };
 
-    ghost view = { λ s. s.sets.items };
+    ghost view = { λ s. of_width W s.few.items s.many.items };
 
-    ghost invariant = { λ s. length s.sets.items ≤ 2 ^ 32 };
-}
-
-/// Removes the items of every set that pass the test. Returns how many it removed.
-fn remove_from_each<const W: usize, P: Fn(&Item) -> bool>(
-    sets: &mut [Ways<Item, W>],
-    test: &P,
-) -> u64
-    requires width { W ≤ 64 }
-    requires fits { length sets.old ≤ 2 ^ 32 }
-    requires test { P.IsAlwaysCallable test.now }
-    ensures kept { (q : _) → IsTest (FnReturnsAt P.Fn test.now) q →
-        PurgesAll q sets.old sets.new result }
-    ensures count { result + items_in sets.new ≡ items_in sets.old }
-    ensures most { result ≤ 64 * length sets.old }
-{
-    let mut count = 0;
-    for ways in sets.iter_mut() {
-        count += ways.remove(test);
-    }
-    count
+    ghost invariant = { λ s. length (of_width W s.few.items s.many.items) ≤ 2 ^ 32 };
 }
 
 impl<const W: usize> Sets<W> {
@@ -53,40 +40,50 @@ impl<const W: usize> Sets<W> {
         requires { W ≤ 64 }
         ensures { IfOk result (λ sets. sets ≡ replicate count []) }
     {
-        let mut sets = Vec::with_capacity(alloc, count as usize)?;
+        let wide = W > 32;
+        let mut few = Vec::with_capacity(alloc, if wide { 0 } else { count as usize })?;
+        let mut many = Vec::with_capacity(alloc, if wide { count as usize } else { 0 })?;
         'opened: for _ in 0..count {
-            if sets.push(Ways::open(alloc, BLANK)?).is_err() {
+            let full = if wide {
+                many.push(Marked::open(alloc)?).is_err()
+            } else {
+                few.push(Ways::open(alloc, BLANK)?).is_err()
+            };
+            if full {
                 return Err(NoMemory);
             }
         }
-        Ok(Sets { sets })
+        Ok(Sets { few, many })
     }
 
-    /// Moves the newest item of the set that passes the test to the front, and returns it. `None`
-    /// where none passes; then nothing changes.
+    /// Moves the newest item of the set with the tag to the front, and returns it. `None` where
+    /// none has it; then nothing changes.
     #[inline(always)]
-    pub fn touch<P: Fn(&Item) -> bool>(&mut self, set: usize, test: P) -> Option<Item>
+    pub fn touch(&mut self, set: usize, tag: u64) -> Option<Item>
         requires width { W ≤ 64 }
         requires set { set < length self.old }
-        requires test { P.IsAlwaysCallable test }
-        ensures touched { (q : _) → IsTest (FnReturnsAt P.Fn test) q →
-            TouchesIn q set self.old self.new result }
-        ensures sets { length self.new ≡ length self.old }
+        ensures { TouchesIn (has_tag tag) set self.old self.new result }
     {
-        let ways = &mut self.sets[set];
-        ways.touch(test)
+        if W <= 32 {
+            let list = &mut self.few[set];
+            return list.touch(|item| item.tag == tag);
+        }
+        let list = &mut self.many[set];
+        list.touch(tag)
     }
 
-    /// The newest item of the set that passes the test.
-    pub fn find<P: Fn(&Item) -> bool>(&self, set: usize, test: P) -> Option<Item>
+    /// The newest item of the set with the tag.
+    pub fn find(&self, set: usize, tag: u64) -> Option<Item>
         requires width { W ≤ 64 }
         requires set { set < length self.now }
-        requires test { P.IsAlwaysCallable test }
-        ensures { (q : _) → IsTest (FnReturnsAt P.Fn test) q →
-            result ≡ find q (slice_index_or self.now set []) }
+        ensures { result ≡ find (has_tag tag) (slice_index_or self.now set []) }
     {
-        let ways = &self.sets[set];
-        ways.find(test)
+        if W <= 32 {
+            let list = &self.few[set];
+            return list.find(|item| item.tag == tag);
+        }
+        let list = &self.many[set];
+        list.find(tag)
     }
 
     /// Puts the item in front of the set, and returns the item evicted: `Some` where the set was
@@ -98,22 +95,27 @@ impl<const W: usize> Sets<W> {
         requires set { set < length self.old }
         ensures { FillsIn W set item self.old self.new result }
     {
-        let ways = &mut self.sets[set];
-        ways.fill(item)
+        if W <= 32 {
+            let list = &mut self.few[set];
+            return list.fill(item);
+        }
+        let list = &mut self.many[set];
+        list.fill(item)
     }
 
-    /// Removes the items of every set that pass the test; the others stay in order. Returns how
-    /// many it removed.
-    pub fn remove_where<P: Fn(&Item) -> bool>(&mut self, test: P) -> u64
+    /// Removes the items of one set with the tag; the others stay in order. Returns how many it
+    /// removed.
+    pub fn remove_tag(&mut self, set: usize, tag: u64) -> u64
         requires width { W ≤ 64 }
-        requires test { P.IsAlwaysCallable test }
-        ensures kept { (q : _) → IsTest (FnReturnsAt P.Fn test) q →
-            PurgesAll q self.old self.new result }
-        ensures count { result + items_in self.new ≡ items_in self.old }
-        ensures most { result ≤ 64 * length self.old }
-        ensures sets { length self.new ≡ length self.old }
+        requires set { set < length self.old }
+        ensures gone { PurgesIn (has_tag tag) set self.old self.new result }
+        ensures most { result ≤ 64 }
     {
-        remove_from_each(&mut self.sets, &test)
+        if W <= 32 {
+            return self.remove_in(set, |item| item.tag == tag);
+        }
+        let list = &mut self.many[set];
+        list.remove_tag(tag)
     }
 
     /// Removes the items of one set that pass the test; the others stay in order. Returns how many
@@ -126,9 +128,54 @@ impl<const W: usize> Sets<W> {
             PurgesIn q set self.old self.new result }
         ensures count { result + items_in self.new ≡ items_in self.old }
         ensures most { result ≤ 64 }
+    {
+        self.remove(set, &test)
+    }
+
+    /// Removes the items of every set that pass the test; the others stay in order. Returns how
+    /// many it removed.
+    pub fn remove_where<P: Fn(&Item) -> bool>(&mut self, test: P) -> u64
+        requires width { W ≤ 64 }
+        requires test { P.IsAlwaysCallable test }
+        ensures kept { (q : _) → IsTest (FnReturnsAt P.Fn test) q →
+            PurgesAll q self.old self.new result }
+        ensures count { result + items_in self.new ≡ items_in self.old }
+        ensures most { result ≤ 64 * length self.old }
+    {
+        let mut count = 0;
+        for set in 0..self.len() {
+            count += self.remove(set, &test);
+        }
+        count
+    }
+
+    /// How many sets there are.
+    fn len(&self) -> usize
+        ensures value { result ≡ length self.now }
+        ensures most { result ≤ 2 ^ 32 }
+    {
+        if W <= 32 {
+            return self.few.len();
+        }
+        self.many.len()
+    }
+
+    /// What `remove_in` does, by a test that is kept.
+    fn remove<P: Fn(&Item) -> bool>(&mut self, set: usize, test: &P) -> u64
+        requires width { W ≤ 64 }
+        requires set { set < length self.old }
+        requires test { P.IsAlwaysCallable test.now }
+        ensures kept { (q : _) → IsTest (FnReturnsAt P.Fn test.now) q →
+            PurgesIn q set self.old self.new result }
+        ensures count { result + items_in self.new ≡ items_in self.old }
+        ensures most { result ≤ 64 }
         ensures sets { length self.new ≡ length self.old }
     {
-        let ways = &mut self.sets[set];
-        ways.remove(&test)
+        if W <= 32 {
+            let list = &mut self.few[set];
+            return list.remove(test);
+        }
+        let list = &mut self.many[set];
+        list.remove(test)
     }
 }

@@ -27,7 +27,7 @@ fn lists_of_both_forms_are_to_be_had(rt: HostRuntime) -> Result<(), Fail> {
     assert!(rt; matches!(stamps.fill(three), Some(Item { tag: 1, word: 0 })));
     let mut sets = Sets::<2>::open(rt.alloc(), 3)?;
     assert!(rt; sets.fill(0, one).is_none() && sets.fill(2, one).is_none());
-    let touched = sets.touch(2, |item| item.tag == 1);
+    let touched = sets.touch(2, 1);
     assert!(rt; matches!(touched, Some(Item { tag: 1, word: 0 })));
     Ok(())
 }

@@ -3,11 +3,11 @@ pub use Rattle.std.proofs.Common.{◌%◌, ◌&&◌, ◌*◌, ◌++◌, ◌+◌,
 pub use Rattle.std.proofs.lemmas.Bool.Decides.{nat_tests}
 pub use Rattle.std.proofs.lemmas.List.{append-nil, drop_all, get_or-set_other, length-map, nil_from_length, take_all}
 pub use Rattle.std.proofs.lemmas.List.Sums.{sum_by-cons}
-pub use Rattle.xl_model.proofs.ArrayLemmas.{filled-spec, touched-spec}
 pub use Rattle.xl_array.proofs.TouchLemmas.{array_found, front_touch, hit_front}
 pub use Rattle.xl_array.specs.Hits.{leaf_hit}
 pub use Rattle.xl_array.specs.Touches.{IsFrontHit, IsPageTouch, IsPageWord, IsTouch, LacksSmall}
 pub use Rattle.xl_array.specs.declared.lookup.Lookup.{Lookup}
+pub use Rattle.xl_model.proofs.ArrayLemmas.{filled-spec, touched-spec}
 pub use Rattle.xl_model.specs.Base.{plus}
 pub use Rattle.xl_model.specs.LeafWords.{leaf_with, small_leaf}
 pub use Rattle.xl_model.specs.Tally.{counted, one_more_where}
@@ -20,7 +20,7 @@ pub use Rattle.xl_model.specs.declared.row.Purge.{Purge}
 pub use Rattle.xl_model.specs.declared.row.Serves.{Serves}
 pub use Rattle.xl_model.specs.declared.row.TlbSpec.{TlbSpec}
 pub use Rattle.xl_tlb.specs.Answers.{IsLooked, IsNowhere, IsWord}
-pub use Rattle.xl_tlb.specs.Counted.{answered_as, hit_at, IsState, one_more_at, seen_in}
+pub use Rattle.xl_tlb.specs.Counted.{alone_in, answered_as, hit_at, IsState, one_more_at, seen_in}
 pub use Rattle.xl_tlb.specs.Founds.{found_leaf, replied_of, with_fill}
 pub use Rattle.xl_tlb.specs.Fronts.{FirstLacks, FrontsStay, HasEights, IsFront}
 pub use Rattle.xl_tlb.specs.Known.{IsKey, Knows, no_key}

@@ -1,5 +1,5 @@
 -- Arrays of higher levels.
-use Rattle.xl_tlb.proofs.Common.{◌%◌, ◌&&◌, ◌*◌, ◌/◌, ◌<◌, ◌∙◌, ◌∷◌, ◌≡◌, ◌≤◌, [], ap, arith, array_hit, Bool, counted, false, hits_up_to, is_some, IsRising, Kind, List, map, misses_up_to, nat_le, nat_tests, NoneBelow, not, one_more_where, refl, serves_kind, spec_of, suc, TlbArray, TlbSpec, ℕ}
+use Rattle.xl_tlb.proofs.Common.{◌&&◌, ◌<◌, ◌∙◌, ◌∷◌, ◌≡◌, ◌≤◌, [], ap, arith, array_hit, Bool, counted, false, hits_up_to, is_some, IsRising, Kind, List, map, misses_up_to, nat_le, nat_tests, NoneBelow, not, one_more_where, refl, serves_kind, spec_of, suc, TlbArray, TlbSpec, ℕ}
 use Rattle.xl_tlb.proofs.LevelLemmas.{and_false}
 
 above : (level other : ℕ) (specs : List TlbSpec) → level < other → NoneBelow other specs → NoneBelow (suc level) specs

@@ -1,5 +1,5 @@
 -- One array that serves all accesses: a look in it, as a look at all.
-use Rattle.xl_tlb.proofs.Common.{◌<◌, ◌^◌, ◌∷◌, ◌≡◌, ◌≤◌, [], all_first, Alone, alone_at, arith, AtOne, FirstLacks, front_touch, HasEights, hit_front, IsAloneFill, IsAloneLook, IsFill, IsFront, IsFrontHit, IsKept, IsKnownWord, IsNowhere, IsOne, IsTlb, IsWord, Kind, length, List, Lookup, map, None, one_more_at, plus, refl, set_number, spec_of, tlb_of, TlbArray, ℕ}
+use Rattle.xl_tlb.proofs.Common.{◌<◌, ◌^◌, ◌∷◌, ◌≡◌, ◌≤◌, [], all_first, Alone, alone_at, alone_in, ap, arith, AtOne, FirstLacks, front_touch, HasEights, hit_front, IsAloneFill, IsAloneLook, IsFill, IsFront, IsFrontHit, IsKept, IsKnownAnswer, IsKnownWord, IsOne, IsTlb, IsWord, Kind, length, List, Lookup, map, None, one_more_at, plus, refl, set_number, spec_of, tlb_of, TlbArray, ℕ}
 use Rattle.xl_tlb.proofs.StayLemmas.{fill_others, kept_at, OtherSets, touch_others}
 use Rattle.xl_tlb.proofs.StepLemmas.{IsLookAt, IsSeen, large_spec, large_word, last_filled, look_hit, look_next, look_none, seen_hit, seen_none, seen_word, touch_spec}
 use Rattle.xl_tlb.proofs.TlbLemmas.{kept_state, serves_all}
@@ -37,21 +37,21 @@ module _ (k : Kind) (space page word : ℕ) (hits misses : List ℕ) (fills : �
       rw (x.2, y.2) (large_word k space page word fills (record { leaf = is.leaf; level = a.spec.level; fills = 0 }) (a ∷ []) (new ∷ []) (x.0 ∷ x.1) (plus x.0 1 ∷ x.1) (y.0 ∷ y.1) (y.0 ∷ y.1)
       (look_hit k space page is.leaf a new [] x.0 x.1 y.0 y.1 (serves_all k a one.0) is.found is.moved tt tt) refl is.says small)
 
-pub one_unknown : (space page : ℕ) (arrays new : List TlbArray) → AtOne (IsAloneLook space page answered.Unknown) arrays new → FirstLacks space page (alone_at 0 arrays) × (new ≡ arrays)
+one_unknown : (space page : ℕ) (arrays new : List TlbArray) → AtOne (IsAloneLook space page answered.Unknown) arrays new → FirstLacks space page (alone_at 0 arrays) × (new ≡ arrays)
 one_unknown space page _ _ (Alone a new is) = (is.0, rw is.1 refl)
 
-module _ (k : Kind) (space page : ℕ) (arrays new : List TlbArray) (hits misses : List ℕ) (fills : ℕ) (few : 1 ≤ length hits) (fewer : 1 ≤ length misses) (one : IsOne (map spec_of arrays)) where
-  pub one_answer : (word : ℕ) → fills < 2 ^ 64 → AtOne (IsAloneLook space page (answered.Word word)) arrays new
-      → IsKnownWord all_first k space page word (tlb_of arrays hits misses fills) (tlb_of new (one_more_at 0 hits) misses fills)
-  one_answer word small is =
-      let s = one_word k space page word hits misses fills few fewer arrays new is one small in
-      seen_word all_first k space page word fills fills arrays new hits (one_more_at 0 hits) misses misses s.0 s.1
-
-  pub one_above : (word : ℕ) → fills < 2 ^ 64 → AtOne (IsAloneLook space page (answered.Large word)) arrays new → IsWord k space page word (tlb_of arrays hits misses fills) (tlb_of new (one_more_at 0 hits) misses fills)
-  one_above word small is = one_large k space page word hits misses fills few fewer arrays new is one small
-
-  pub one_miss : AtOne (IsAloneLook space page answered.Nowhere) arrays new → IsNowhere k space page (tlb_of arrays hits misses fills) (tlb_of new hits (one_more_at 0 misses) fills)
-  one_miss is = seen_none k space page fills arrays new hits hits misses (one_more_at 0 misses) (one_nowhere k space page 0 hits misses fills few fewer arrays new is one)
+pub one_answer : (answer : Answered) (k : Kind) (space page : ℕ) (arrays new : List TlbArray) (hits misses : List ℕ) (fills : ℕ) → 1 ≤ length hits → 1 ≤ length misses → fills < 2 ^ 64
+    → IsOne (map spec_of arrays) → AtOne (IsAloneLook space page answer) arrays new
+    → IsKnownAnswer all_first k space page answer (tlb_of arrays hits misses fills) (alone_in answer (tlb_of new hits misses fills))
+one_answer (answered.Word word) k space page arrays new hits misses fills few fewer small one is =
+    let s = one_word k space page word hits misses fills few fewer arrays new is one small in
+    seen_word all_first k space page word fills fills arrays new hits (one_more_at 0 hits) misses misses s.0 s.1
+one_answer (answered.Large word) k space page arrays new hits misses fills few fewer small one is = one_large k space page word hits misses fills few fewer arrays new is one small
+one_answer answered.Nowhere k space page arrays new hits misses fills few fewer small one is =
+    seen_none k space page fills arrays new hits hits misses (one_more_at 0 misses) (one_nowhere k space page 0 hits misses fills few fewer arrays new is one)
+one_answer answered.Unknown k space page arrays new hits misses fills few fewer small one is =
+    let u = one_unknown space page arrays new is in
+    (u.0, ap (λ (z : List TlbArray). tlb_of z hits misses fills) u.1)
 
 pub one_filled : (q : Lookup) (word : ℕ) (k : Kind) (arrays new : List TlbArray) → AtOne (IsAloneFill q.space q.page word) arrays new → IsOne (map spec_of arrays)
     → IsFill k q word 1 arrays new × IsKept all_first k q.space q.page word arrays new
@@ -70,7 +70,7 @@ pub one_front : (k : Kind) (space page word : ℕ) (arrays : List TlbArray) (hit
     → IsOne (map spec_of arrays) → IsFront space page word (alone_at 0 arrays)
     → IsKnownWord all_first k space page word (tlb_of arrays hits misses fills) (tlb_of arrays (one_more_at 0 hits) misses fills)
 one_front k space page word arrays hits misses fills few fewer small one front =
-    one_answer k space page arrays arrays hits misses fills few fewer one word small (front_look space page word arrays one front)
+    one_answer (answered.Word word) k space page arrays arrays hits misses fills few fewer small one (front_look space page word arrays one front)
 
 pub no_other : (a : TlbArray) (rest : List TlbArray) → IsOne (map spec_of (a ∷ rest)) → rest ≡ []
 no_other a [] one = refl
@@ -82,8 +82,8 @@ eights_alone [] e = tt
 eights_alone (a ∷ rest) e = e
 
 -- a look leaves the spec
-pub one_kept_state : (answer : Answered) (space page : ℕ) (arrays new : List TlbArray) (hits h misses m : List ℕ) (fills : ℕ) → AtOne (IsAloneLook space page answer) arrays new → IsTlb (tlb_of arrays hits misses fills) → IsTlb (tlb_of new h m fills)
-one_kept_state answer space page arrays new hits h misses m fills is kept = kept_state arrays new hits h misses m fills fills (specs answer arrays new is) kept
+pub one_kept_state : (answer : Answered) (space page : ℕ) (arrays new : List TlbArray) (hits misses : List ℕ) (fills : ℕ) → AtOne (IsAloneLook space page answer) arrays new → IsTlb (tlb_of arrays hits misses fills) → IsTlb (tlb_of new hits misses fills)
+one_kept_state answer space page arrays new hits misses fills is kept = kept_state arrays new hits hits misses misses fills fills (specs answer arrays new is) kept
   where
     specs : (answer : Answered) (arrays new : List TlbArray) → AtOne (IsAloneLook space page answer) arrays new → map spec_of new ≡ map spec_of arrays
     specs (answered.Word word) _ _ (Alone a new is) = rw (touch_spec space page word a new is) refl

@@ -1,5 +1,5 @@
 -- A look at arrays in line, one after another, as a look at all.
-use Rattle.xl_tlb.proofs.Common.{◌&&◌, ◌+◌, ◌<◌, ◌^◌, ◌∙◌, ◌∷◌, ◌≡◌, [], Answer, answer_of, ap, arith, array_filled, array_found, array_hit, array_touched, arrays_filled, arrays_without, asked, Bool, cond, count_by, counted, false, filled_below, filled_for, fills_array, hits_at, is_purged, is_some, IsFill, IsKept, IsKnownWord, IsLooked, IsNowhere, IsPageTouch, IsPageWord, IsPairLook, IsTouch, IsWord, Kind, Leaf, leaf_replied, List, looked_arrays, Lookup, map, misses_at, nat_le, nat_lt, nat_tests, None, NoneBelow, not, one_more_where, Option, plus, Purge, Reach, reaches_leaf, refl, Replied, replied, Seen, serves_kind, small_leaf, Some, filled-spec, spec_of, touched-spec, sym, takes_leaf, takes_order, tlb_fenced, tlb_filled, tlb_looked, tlb_of, tlb_purged, TlbArray, TlbState, true, where_taken, ℕ}
+use Rattle.xl_tlb.proofs.Common.{◌&&◌, ◌+◌, ◌<◌, ◌^◌, ◌∙◌, ◌∷◌, ◌≡◌, [], Answer, answer_of, ap, arith, array_filled, array_found, array_hit, array_touched, arrays_filled, arrays_without, asked, Bool, cond, count_by, counted, false, filled-spec, filled_below, filled_for, fills_array, hits_at, is_purged, is_some, IsFill, IsKept, IsKnownWord, IsLooked, IsNowhere, IsPageTouch, IsPageWord, IsPairLook, IsTouch, IsWord, Kind, Leaf, leaf_replied, List, looked_arrays, Lookup, map, misses_at, nat_le, nat_lt, nat_tests, None, NoneBelow, not, one_more_where, Option, plus, Purge, Reach, reaches_leaf, refl, Replied, replied, Seen, serves_kind, small_leaf, Some, spec_of, sym, takes_leaf, takes_order, tlb_fenced, tlb_filled, tlb_looked, tlb_of, tlb_purged, TlbArray, TlbState, touched-spec, true, where_taken, ℕ}
 use Rattle.xl_array.proofs.PageLemmas.{small_says}
 use Rattle.xl_tlb.proofs.LevelLemmas.{and_false, first_arrays, first_replied, more_arrays, more_hits, more_misses, more_replied, with_one}
 use Rattle.xl_tlb.proofs.StayLemmas.{look_none as nothing_moves}

@@ -37,3 +37,10 @@ answered_as (seen.Second word) = answered.Word word
 answered_as (seen.Large word) = answered.Large word
 answered_as seen.Nowhere = answered.Nowhere
 answered_as seen.Unknown = answered.Unknown
+
+-- What a look in the first array found, where there is no other.
+abbrev pub alone_in : Answered → TlbState → TlbState
+alone_in (answered.Word word) t = hit_at 0 t
+alone_in (answered.Large word) t = hit_at 0 t
+alone_in answered.Nowhere t = record t { misses = one_more_at 0 t.misses }
+alone_in answered.Unknown t = t

@@ -4,7 +4,7 @@
 //! The first array that serves the access and hits gives its leaf; of its level the others are
 //! looked at for their counts, and on the way back the arrays of lower levels are filled.
 
-ghost use Rattle.std.specs.Prelude.{ℕ, ◌≡◌, ◌<◌, ◌≤◌, ◌^◌, ◌+◌, suc, true, false, length, map, count_by, slice_set, slice_index_or, IfSome, IfNone};
+ghost use Rattle.std.specs.Prelude.{◌≡◌, ◌<◌, ◌≤◌, ◌^◌, ◌+◌, suc, true, false, length, map, count_by, slice_set, slice_index_or, IfSome, IfNone};
 ghost use Rattle.xl_model.specs.Base.{plus};
 ghost use Rattle.xl_model.specs.Tally.{counted};
 ghost use Rattle.xl_model.specs.Tlb.{asked, filled_for, takes_leaf};

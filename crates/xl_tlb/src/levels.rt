@@ -1,14 +1,14 @@
 //! The arrays of a row in levels, with their counts.
 
-ghost use Rattle.std.specs.Prelude.{ℕ, true, ◌==◌, ◌≡◌, ◌<◌, ◌≤◌, ◌^◌, ◌+◌, ◌*◌, length, map, slice_index_or, IfOk};
+ghost use Rattle.std.specs.Prelude.{ℕ, true, ◌==◌, ◌≡◌, ◌<◌, ◌≤◌, ◌^◌, ◌+◌, ◌*◌, length, map, IfOk};
 ghost use Rattle.xl_model.specs.declared.address.Kind.{Kind as KindOf};
 ghost use Rattle.xl_model.specs.declared.leaf.Leaf.{Leaf};
 ghost use Rattle.xl_model.specs.Tlb.{leaf_count, array_without, is_purged, reaches_leaf};
 ghost use Rattle.xl_array.specs.Arrays.{IsFit, InLimits};
 ghost use Rattle.xl_tlb.specs.Answers.{IsLooked};
-ghost use Rattle.xl_tlb.specs.Counted.{IsState, answered_as, hit_at, seen_in};
+ghost use Rattle.xl_tlb.specs.Counted.{IsState, alone_in, answered_as, hit_at, seen_in};
 ghost use Rattle.xl_array.specs.Hits.{leaf_hit};
-ghost use Rattle.xl_tlb.specs.Tlbs.{spec_of, tlb_opening, AreSpecs, IsRising, tlb_looked, tlb_filled, tlb_purged, tlb_fenced};
+ghost use Rattle.xl_tlb.specs.Tlbs.{tlb_opening, AreSpecs, IsRising, tlb_looked, tlb_filled, tlb_purged, tlb_fenced};
 
 use crate::in_turn::{Request, fill_each, look_in};
 use crate::pair::Seen;
@@ -129,6 +129,29 @@ impl Levels {
                 Answered::Nowhere
             }
             Seen::Unknown => Answered::Unknown,
+        }
+    }
+
+    /// Counts what a look in the first array found, where there is no other.
+    #[inline(always)]
+    pub fn count_alone(&mut self, answered: Answered) -> Answered
+        ensures answer { result ≡ answered }
+        ensures counts { self.new ≡ alone_in answered self.old }
+    {
+        match answered {
+            Answered::Word { word } => {
+                self.hits[0] = self.hits[0].wrapping_add(1);
+                Answered::Word { word }
+            }
+            Answered::Large { word } => {
+                self.hits[0] = self.hits[0].wrapping_add(1);
+                Answered::Large { word }
+            }
+            Answered::Nowhere => {
+                self.misses[0] = self.misses[0].wrapping_add(1);
+                Answered::Nowhere
+            }
+            Answered::Unknown => Answered::Unknown,
         }
     }
 

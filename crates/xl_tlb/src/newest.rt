@@ -1,6 +1,6 @@
 //! Memo of pages that hit the newest leaf of their set in the first array.
 
-ghost use Rattle.std.specs.Prelude.{true, ◌≡◌, ◌<◌, ◌^◌, ◌+◌, ◌*◌, ◌%◌, List, IfSome};
+ghost use Rattle.std.specs.Prelude.{true, ◌≡◌, ◌<◌, ◌%◌, List, IfSome};
 ghost use Rattle.xl_model.specs.Tlb.{TlbArray};
 ghost use Rattle.xl_tlb.specs.Fronts.{IsFront, FrontsStay};
 ghost use Rattle.xl_tlb.specs.Known.{Knows};

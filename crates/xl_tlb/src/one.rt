@@ -6,7 +6,6 @@
 ghost use Rattle.std.specs.Prelude.{◌≡◌, true, map};
 ghost use Rattle.xl_model.specs.declared.address.Kind.{Kind as KindOf};
 ghost use Rattle.xl_model.specs.declared.address.Order.TheVariants as order_of;
-ghost use Rattle.xl_model.specs.Tlb.{takes_order};
 ghost use Rattle.xl_tlb.specs.Fronts.{FirstLacks, HasEights};
 ghost use Rattle.xl_tlb.specs.Shapes.{AtOne, FitsOne, IsAloneFill, IsAloneLook, IsKnownAnswer, IsKnownFill, IsOne, all_first, alone_at};
 ghost use Rattle.xl_array.specs.Lookup.{IsLookup};
@@ -82,21 +81,8 @@ impl Levels {
         ensures { (k : KindOf) →
             IsKnownAnswer all_first k lookup.space lookup.page result self.old self.new }
     {
-        match look_alone::<P>(&mut self.arrays, lookup) {
-            Answered::Word { word } => {
-                self.hits[0] = self.hits[0].wrapping_add(1);
-                Answered::Word { word }
-            }
-            Answered::Large { word } => {
-                self.hits[0] = self.hits[0].wrapping_add(1);
-                Answered::Large { word }
-            }
-            Answered::Nowhere => {
-                self.misses[0] = self.misses[0].wrapping_add(1);
-                Answered::Nowhere
-            }
-            Answered::Unknown => Answered::Unknown,
-        }
+        let answered = look_alone::<P>(&mut self.arrays, lookup);
+        self.count_alone(answered)
     }
 
     /// Fills the array with the leaf of 4 KiB that is sought.

@@ -1,5 +1,4 @@
-use Rattle.xl_recency.proofs.Common.{◌<◌, arith, sym}
-use Rattle.std.proofs.lemmas.Bool.Decides.{nat_tests}
+use Rattle.xl_recency.proofs.Common.{◌<◌, arith, nat_tests, sym}
 use Rattle.xl_recency.proofs.FrontLemmas.{spread-back, spread-none}
 use Rattle.xl_recency.proofs.kernel.put_in_front.Goals as goal
 

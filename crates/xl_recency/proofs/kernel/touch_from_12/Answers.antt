@@ -18,3 +18,15 @@ pub returns : goal.returns
 returns g c =
     let none = fail_all (FnReturnsAt g.P.Fn c.args.test.now) c.args.slots.now c.args.len 16 (omega arith) (omega arith) (c.is_first_at-4.ensures.no c.if-is_first_at-4.false) in
     λ q test. record { found = none_found _ q test _ none; moved = none_moved _ q test _ none }
+
+pub returns-then-is_first_at : goal.returns-then-is_first_at
+returns-then-is_first_at g c = c.bring_at.ensures
+
+pub returns-then-is_first_at-2 : goal.returns-then-is_first_at-2
+returns-then-is_first_at-2 g c = c.bring_at-then-is_first_at-2.ensures
+
+pub returns-then-is_first_at-3 : goal.returns-then-is_first_at-3
+returns-then-is_first_at-3 g c = c.bring_at-then-is_first_at-3.ensures
+
+pub returns-then-is_first_at-4 : goal.returns-then-is_first_at-4
+returns-then-is_first_at-4 g c = c.bring_at-then-is_first_at-4.ensures

@@ -21,3 +21,18 @@ returns-then-this-le8 g c =
 
 pub touch_from_8-requires : goal.touch_from_8-requires
 touch_from_8-requires g c = (search rules, (c.requires.few, (c.requires.fits, (c.requires.test, c.is_first_at-4.ensures.no c.if-is_first_at-4.false))))
+
+pub returns-then-is_first_at : goal.returns-then-is_first_at
+returns-then-is_first_at g c = c.bring_at.ensures
+
+pub returns-then-is_first_at-2 : goal.returns-then-is_first_at-2
+returns-then-is_first_at-2 g c = c.bring_at-then-is_first_at-2.ensures
+
+pub returns-then-is_first_at-3 : goal.returns-then-is_first_at-3
+returns-then-is_first_at-3 g c = c.bring_at-then-is_first_at-3.ensures
+
+pub returns-then-is_first_at-4 : goal.returns-then-is_first_at-4
+returns-then-is_first_at-4 g c = c.bring_at-then-is_first_at-4.ensures
+
+pub returns : goal.returns
+returns g c = c.touch_from_8.ensures

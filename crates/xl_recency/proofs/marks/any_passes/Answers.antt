@@ -1,8 +1,6 @@
-use Rattle.xl_recency.proofs.Common.{◌<◌, ◌≡◌, arith, false, FnReturnsAt, get_or, get_or-map, length, says_at, subst, sym}
+use Rattle.xl_recency.proofs.Common.{◌<◌, ◌≡◌, arith, false, FnReturnsAt, get_or, get_or-map, in_order, Item, item_in, length, says_at, subst, sym}
 use Rattle.xl_recency.proofs.MarkLemmas.{order_length}
 use Rattle.xl_recency.proofs.ScanLemmas.{fail_more}
-use Rattle.xl_recency.specs.declared.item.Item.{Item}
-use Rattle.xl_recency.specs.Marks.{in_order, item_in}
 use Rattle.xl_recency.proofs.marks.any_passes.Goals as goal
 
 pub loop-place-preserved : goal.loop-place-preserved

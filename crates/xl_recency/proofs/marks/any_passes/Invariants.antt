@@ -1,5 +1,4 @@
-use Rattle.xl_recency.proofs.Common.{FailBefore, FnReturnsAt}
-use Rattle.xl_recency.specs.Marks.{in_order}
+use Rattle.xl_recency.proofs.Common.{FailBefore, FnReturnsAt, in_order}
 use Rattle.xl_recency.proofs.marks.any_passes.Given as goal
 
 abbrev pub invariant-loop-place : goal.invariant-loop-place

@@ -1,6 +1,5 @@
-use Rattle.xl_recency.proofs.Common.{◌<◌, ◌∙◌, ap, arith, length, map, sym}
+use Rattle.xl_recency.proofs.Common.{◌<◌, ◌∙◌, ap, arith, in_order, item_mark, length, map, sym}
 use Rattle.xl_recency.proofs.MarkLemmas.{marks_front, order_front, order_length, slots_front}
-use Rattle.xl_recency.specs.Marks.{in_order, item_mark}
 use Rattle.xl_recency.proofs.marks.bring_place.Goals as goal
 
 pub returns-clause-front : goal.returns-clause-front

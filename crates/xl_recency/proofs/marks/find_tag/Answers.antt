@@ -1,6 +1,5 @@
-use Rattle.xl_recency.proofs.Common.{◌<◌, ◌≤◌, ◌∙◌, ap, arith, length, Some, sym}
+use Rattle.xl_recency.proofs.Common.{◌<◌, ◌∙◌, ◌≤◌, ap, arith, in_order, length, Some, sym}
 use Rattle.xl_recency.proofs.MarkLemmas.{found_tag, lacks_find, order_length, order_read}
-use Rattle.xl_recency.specs.Marks.{in_order}
 use Rattle.xl_recency.proofs.marks.find_tag.Goals as goal
 
 pub returns-in-Some : goal.returns-in-Some

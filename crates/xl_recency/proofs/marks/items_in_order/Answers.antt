@@ -1,6 +1,5 @@
-use Rattle.xl_recency.proofs.Common.{◌∙◌, arith, ext_get_or, sym}
+use Rattle.xl_recency.proofs.Common.{◌∙◌, arith, ext_get_or, in_order, sym}
 use Rattle.xl_recency.proofs.MarkLemmas.{order_length, order_read}
-use Rattle.xl_recency.specs.Marks.{in_order}
 use Rattle.xl_recency.proofs.marks.items_in_order.Goals as goal
 
 pub returns : goal.returns

@@ -1,6 +1,5 @@
-use Rattle.xl_recency.proofs.Common.{◌++◌, ◌∙◌, ◌≡◌, ap, arith, drop, length, length-append, length-drop, map, purged, sym, take, take-append-le}
+use Rattle.xl_recency.proofs.Common.{◌++◌, ◌∙◌, ◌≡◌, ap, arith, drop, item_mark, length, length-append, length-drop, map, purged, sym, take, take-append-le}
 use Rattle.xl_recency.proofs.MarkLemmas.{order_in_turn, taken_count}
-use Rattle.xl_recency.specs.Marks.{item_mark}
 use Rattle.xl_recency.proofs.marks.keep_items.Goals as goal
 
 pub returns-clause-purged : goal.returns-clause-purged

@@ -1,5 +1,4 @@
-use Rattle.xl_recency.proofs.Common.{◌<◌, ◌≡◌, get_or, length, ℕ}
-use Rattle.xl_recency.specs.Marks.{item_in, item_mark}
+use Rattle.xl_recency.proofs.Common.{◌<◌, ◌≡◌, get_or, item_in, item_mark, length, ℕ}
 use Rattle.xl_recency.proofs.marks.marks_of.Given as goal
 
 abbrev pub invariant-loop-at : goal.invariant-loop-at

@@ -1,7 +1,5 @@
-use Rattle.xl_recency.proofs.Common.{◌∙◌, ◌+◌, ◌≡◌, ap, arith, false}
-use Rattle.std.proofs.lemmas.Bool.Decides.{nat_tests}
+use Rattle.xl_recency.proofs.Common.{◌+◌, ◌∙◌, ◌≡◌, ap, arith, false, has_tag, in_order, item_in, nat_tests}
 use Rattle.xl_recency.proofs.MarkLemmas.{order_length, order_read, tag_passed, tags_passed}
-use Rattle.xl_recency.specs.Marks.{has_tag, in_order, item_in}
 use Rattle.xl_recency.proofs.marks.place_of_tag.Goals as goal
 
 pub marked-init : goal.marked-init

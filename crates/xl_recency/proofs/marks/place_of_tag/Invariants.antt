@@ -1,5 +1,4 @@
-use Rattle.xl_recency.proofs.Common.{◌-◌, ◌<◌, ◌≡◌, false, ℕ}
-use Rattle.xl_recency.specs.Marks.{has_tag, in_order, item_in}
+use Rattle.xl_recency.proofs.Common.{◌-◌, ◌<◌, ◌≡◌, false, has_tag, in_order, item_in, ℕ}
 use Rattle.xl_recency.proofs.marks.place_of_tag.Given as goal
 
 abbrev pub invariant-marked : goal.invariant-marked

@@ -1,5 +1,4 @@
-use Rattle.xl_recency.proofs.Common.{◌∷◌, ◌<◌, ◌∙◌, ◌≡◌, ◌≤◌, arith, ext_get_or, get_or, length, length-set, remove, sym}
-use Rattle.std.proofs.lemmas.Bool.Decides.{nat_tests}
+use Rattle.xl_recency.proofs.Common.{◌<◌, ◌∙◌, ◌∷◌, ◌≡◌, ◌≤◌, arith, ext_get_or, get_or, length, length-set, nat_tests, remove, sym}
 use Rattle.xl_recency.proofs.MarkLemmas.{carried_more, front_length, front_moved, front_past, unwritten, written}
 use Rattle.xl_recency.proofs.marks.put_byte_in_front.Goals.{else-place-after-ge128, then-place-after-ge128}
 use Rattle.xl_recency.proofs.marks.put_byte_in_front.Goals as goal

@@ -1,6 +1,5 @@
-use Rattle.xl_recency.proofs.Common.{◌∷◌, ◌-◌, ◌<◌, ◌∙◌, ap, arith, get_or, map, remove, set, sym}
+use Rattle.xl_recency.proofs.Common.{◌-◌, ◌<◌, ◌∙◌, ◌∷◌, ap, arith, get_or, in_order, item_mark, map, remove, set, sym}
 use Rattle.xl_recency.proofs.MarkLemmas.{map_remove, order_filled, slots_front}
-use Rattle.xl_recency.specs.Marks.{in_order, item_mark}
 use Rattle.xl_recency.proofs.marks.put_item_in_front.Goals as goal
 
 pub returns-clause-front : goal.returns-clause-front

@@ -1,6 +1,5 @@
-use Rattle.xl_recency.proofs.Common.{◌<◌, ◌≤◌, arith, length}
+use Rattle.xl_recency.proofs.Common.{◌<◌, ◌≤◌, arith, in_order, length}
 use Rattle.xl_recency.proofs.MarkLemmas.{lacks_touch, order_length, touches_tag}
-use Rattle.xl_recency.specs.Marks.{in_order}
 use Rattle.xl_recency.proofs.marks.touch_tag.Goals as goal
 
 pub returns-in-Some-clause-touched : goal.returns-in-Some-clause-touched

@@ -1,6 +1,5 @@
-use Rattle.xl_array.proofs.Common.{◌∙◌, ap, array_in, leaf_hit, leaves_in_sets, sym, TlbArray}
+use Rattle.xl_array.proofs.Common.{◌∙◌, ap, array_in, filled-spec, leaf_hit, leaves_in_sets, sym, TlbArray}
 use Rattle.xl_array.proofs.SmallLemmas.{filled-small}
-use Rattle.xl_model.proofs.ArrayLemmas.{filled-spec}
 use Rattle.xl_array.proofs.any.AnyArray.fill_hit.Goals as goal
 
 pub invariant_of-self : goal.invariant_of-self

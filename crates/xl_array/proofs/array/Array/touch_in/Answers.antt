@@ -7,14 +7,14 @@ pub invariant_of-self : goal.invariant_of-self
 invariant_of-self g c =
     let s = c.args.lookup in
     let below : c.args.set < c.self.inside.spec.sets = below_sets c.self.inside.spec c.args._order s.page c.args.set c.self.invariant.some (rw (← c.self.view_is) at c.requires.set_is) in
-    touch_kept c.self.inside.spec c.self.inside.sets c.touch_tag.new.sets g.row.W c.args.set s.space s.page c.args._order c.requires.lookup.space_in
+    touch_kept c.self.inside.spec c.self.inside.sets c.touch.new.self g.row.W c.args.set s.space s.page c.args._order c.requires.lookup.space_in
     c.self.invariant below (rw c.requires.lookup.tagged at c.in_default.ensures.moved)
 
 pub invariant_of-self-2 : goal.invariant_of-self-2
 invariant_of-self-2 g c =
     let s = c.args.lookup in
     let below : c.args.set < c.self.inside.spec.sets = below_sets c.self.inside.spec c.args._order s.page c.args.set c.self.invariant.some (rw (← c.self.view_is) at c.requires.set_is) in
-    touch_kept c.self.inside.spec c.self.inside.sets c.touch_tag.new.sets g.row.W c.args.set s.space s.page c.args._order c.requires.lookup.space_in
+    touch_kept c.self.inside.spec c.self.inside.sets c.touch.new.self g.row.W c.args.set s.space s.page c.args._order c.requires.lookup.space_in
     c.self.invariant below (rw c.requires.lookup.tagged at c.in-Some.ensures.moved)
 
 pub returns-in_default : goal.returns-in_default
@@ -31,7 +31,7 @@ returns-in_default g c =
     rw (← c.self.view_is) (record {
       found = look_none spec sets s.space s.page o small takes found;
       some = tt;
-      none = same_array spec sets c.touch_tag.new.sets (look_stays spec sets s.space s.page o small c.touch_tag.new.sets found moved);
+      none = same_array spec sets c.touch.new.self (look_stays spec sets s.space s.page o small c.touch.new.self found moved);
     })
 
 pub returns : goal.returns
@@ -47,6 +47,6 @@ returns g c =
     let moved = rw (set_is, c.requires.lookup.tagged) at c.in-Some.ensures.moved in
     rw (← c.self.view_is) (record {
       found = look_found spec sets s.space s.page o small c.in-Some.item takes found;
-      some = look_moved spec sets s.space s.page o small c.touch_tag.new.sets c.in-Some.item.word moved;
+      some = look_moved spec sets s.space s.page o small c.touch.new.self c.in-Some.item.word moved;
       none = tt;
     })

@@ -1,7 +1,5 @@
-use Rattle.xl_recency.proofs.Common.{◌∙◌, ◌≡◌, ap, arith, length, length-replicate, map, replicate, sym}
+use Rattle.xl_recency.proofs.Common.{◌∙◌, ◌≡◌, ap, arith, Item, item_mark, length, length-replicate, map, replicate, sym}
 use Rattle.xl_recency.proofs.MarkLemmas.{order_in_turn}
-use Rattle.xl_recency.specs.declared.item.Item.{Item}
-use Rattle.xl_recency.specs.Marks.{item_mark}
 use Rattle.xl_recency.proofs.marked.Marked.open.Goals as goal
 
 pub invariant_of-result : goal.invariant_of-result

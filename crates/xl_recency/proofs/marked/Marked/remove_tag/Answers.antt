@@ -1,5 +1,5 @@
+use Rattle.xl_recency.proofs.Common.{has_tag}
 use Rattle.xl_recency.proofs.MarkLemmas.{none_purges}
-use Rattle.xl_recency.specs.Marks.{has_tag}
 use Rattle.xl_recency.proofs.marked.Marked.remove_tag.Goals as goal
 
 pub returns-in-None-clause-kept : goal.returns-in-None-clause-kept
