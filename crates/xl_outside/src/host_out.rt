@@ -17,7 +17,7 @@ pub type HostErr = OpenSink<Stderr>;
 impl HostOut {
     pub fn open(rt: &HostRuntime) -> HostOut
         ensures faults { result.to.faults ≡ 0 }
-        ensures nothing { result.held.items ≡ [] }
+        ensures nothing { result.held ≡ [] }
     {
         Buffered::over(OpenSink::over(rt.stdout()))
     }

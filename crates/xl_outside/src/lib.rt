@@ -6,6 +6,7 @@
 
 mod buffered;
 mod folder;
+mod held;
 mod host_folder;
 mod host_out;
 mod mem_folder;
@@ -14,6 +15,7 @@ mod open_folder;
 mod open_sink;
 mod sink;
 mod stream;
+mod text;
 mod whole;
 
 pub use buffered::Buffered;
@@ -26,4 +28,5 @@ pub use open_folder::OpenFolder;
 pub use open_sink::{OpenSink, Writer};
 pub use sink::{Failed, Sink, put_all, send_all};
 pub use stream::{Opener, Placed, Stream};
+pub use text::Text;
 pub use whole::{ReadStop, read_whole};

@@ -3,6 +3,7 @@
 ghost use Rattle.std.specs.Prelude.{◌≡◌, ℕ, ◌+◌, ◌-◌, ◌^◌, ◌<◌, ◌≤◌, length, take, drop, List, Option, Ok, IfOk, OnOk, OnErr, is_ok};
 ghost use Rattle.xl_outside.specs.Sinks.{SinkMeaning, IsMore, PutAfter, SinkAfter, FlushAfter, SentAfter, IsFlushed};
 
+use crate::text::{LONGEST, Text};
 use thiserror::Error;
 
 /// A put failed, and took nothing.
@@ -23,6 +24,33 @@ pub trait Sink {
         ensures empty { length bytes.now ≡ 0 → result ≡ Ok 0 }
         ensures leaves { PutAfter sink bytes.now self.old self.new result };
 
+    /// Puts a whole piece, in as many puts as it takes. Where one of them fails or takes nothing,
+    /// the first bytes of the piece were taken.
+    fn put_all(&mut self, bytes: &[u8]) -> Result<(), Failed>
+        ensures { SinkAfter sink bytes.now self.old self.new (is_ok result) }
+    {
+        let mut done = 0;
+        while done < bytes.len() {
+            match self.put(&bytes[done..]) {
+                Ok(0) => return Err(Failed),
+                Ok(count) => done += count,
+                Err(failed) => return Err(failed),
+            }
+        }
+        Ok(())
+    }
+
+    /// Puts a whole text. It is put together apart where the sink has no room of its own. Where a
+    /// put fails, the first bytes of the text were taken.
+    fn put_text<T: Text>(&mut self, text: &T) -> Result<(), Failed>
+        ensures { SinkAfter sink (T.bytes text.now) self.old self.new (is_ok result) }
+    {
+        let mut room = [0; LONGEST];
+        let piece = &mut room[..text.len()];
+        text.write(piece);
+        self.put_all(piece)
+    }
+
     /// Writes what it took and has not yet written.
     fn flush(&mut self) -> Result<(), Failed>
         ensures { FlushAfter sink self.old self.new (is_ok result) };
@@ -36,15 +64,7 @@ pub trait Sink {
 pub fn put_all<K: Sink>(out: &mut K, bytes: &[u8]) -> Result<(), Failed>
     ensures { SinkAfter K.sink bytes.now out.old out.new (is_ok result) }
 {
-    let mut done = 0;
-    while done < bytes.len() {
-        match out.put(&bytes[done..]) {
-            Ok(0) => return Err(Failed),
-            Ok(count) => done += count,
-            Err(failed) => return Err(failed),
-        }
-    }
-    Ok(())
+    out.put_all(bytes)
 }
 
 /// Puts a whole piece and flushes, so that the piece is written. Where a put fails, the first bytes

@@ -1,9 +1,5 @@
 -- The line of an access, in the order in which it is put together.
-use Rattle.xl_report.proofs.Common.{◌++◌, ◌∙◌, ◌≡◌, [], append_assoc, codes, decimal, hex16, List, sym, with_reply, ℕ}
-use Rattle.xl_model.specs.Addresses.{code_of}
-use Rattle.xl_model.specs.Tally.{physical}
-use Rattle.xl_model.specs.declared.address.Kind.{Kind}
-use Rattle.xl_model.specs.declared.leaf.Reply.{Reply}
+use Rattle.xl_report.proofs.Common.{◌++◌, ◌∙◌, ◌≡◌, [], append_assoc, code_of, codes, decimal, hex16, Kind, List, physical, Reply, sym, with_reply, ℕ}
 use Rattle.xl_model.specs.declared.leaf.Reply.TheVariants as reply
 
 -- a reply after a line, and alone

@@ -7,6 +7,7 @@ mod front;
 mod line;
 mod object;
 mod row;
+mod size;
 
 pub use answer::{Answered, write_answer, write_command, write_image};
 pub use line::Line;

@@ -7,7 +7,7 @@ pub returns : goal.returns
 returns g c =
     let passed = c.in_ok-pass_on.ensures in
     let flushed = c.flush.ensures in
-    let held = c.pass_on.new.self.held.items in
+    let held = c.pass_on.new.self.held in
     let size : length held ≡ 0 = ap (λ xs. length xs) passed.none in
     record {
       keeps = ap (λ w. with_more w held) flushed.keeps ∙ passed.kept;

@@ -1,6 +1,6 @@
 use Rattle.xl_outside.proofs.Common.{◌+◌, ◌-◌, ◌∙◌, ◌≡◌, ◌≤◌, arith, drop, inl, length, subst, take, true}
 use Rattle.xl_outside.proofs.SinkLemmas.{length-rest, proceeds_then, put_proceeds, put_stops, written_on}
-use Rattle.xl_outside.proofs.sink.put_all.Goals as goal
+use Rattle.xl_outside.proofs.sink.Sink.put_all.Goals as goal
 
 pub loop-done-preserved : goal.loop-done-preserved
 loop-done-preserved g c =
@@ -10,13 +10,13 @@ loop-done-preserved g c =
     let rest = length-rest bytes c.loop-done.done inv.within in
     let most = c.in-Ok.ensures.count in record {
       within = omega (arith, most);
-      so_far = written_on (g.K.Sink.sink.taken c.args.out.now) (g.K.Sink.sink.taken c.loop-done.out) _ bytes c.loop-done.done c.in-Ok.count inv.so_far put.took;
+      so_far = written_on (g.Self.Sink.sink.taken c.args.self.now) (g.Self.Sink.sink.taken c.loop-done.self) _ bytes c.loop-done.done c.in-Ok.count inv.so_far put.took;
       proceeds = proceeds_then true _ _ _ inv.proceeds (put_proceeds _ _ put.stays (put.counts.1 (inl (omega arith))));
       calm = λ room h k.
           let fits : length (take (length bytes - c.loop-done.done) (drop c.loop-done.done bytes)) ≤ room - c.loop-done.done = omega arith in
           let step = put.calm (room - c.loop-done.done) (inv.calm room h k) fits in
           let e : (room - c.loop-done.done) - c.in-Ok.count ≡ room - (c.loop-done.done + c.in-Ok.count) = omega arith in
-          subst (λ left. g.K.Sink.sink.roomy c.put.new.self left) e step.1;
+          subst (λ left. g.Self.Sink.sink.roomy c.put.new.self left) e step.1;
     }
 
 pub returns-in-Ok-eq0 : goal.returns-in-Ok-eq0
@@ -28,7 +28,7 @@ returns-in-Ok-eq0 g c =
     let rest = length-rest bytes done inv.within in
     let most = c.in-Ok-eq0.ensures.count in
     let more = c.loop-done-test.true in record {
-      took = (done + c.in-Ok-eq0.field-0, omega (arith, most), written_on (g.K.Sink.sink.taken c.args.out.now) (g.K.Sink.sink.taken c.loop-done.out) _ bytes done c.in-Ok-eq0.field-0 inv.so_far put.took);
+      took = (done + c.in-Ok-eq0.field-0, omega (arith, most), written_on (g.Self.Sink.sink.taken c.args.self.now) (g.Self.Sink.sink.taken c.loop-done.self) _ bytes done c.in-Ok-eq0.field-0 inv.so_far put.took);
       proceeds = put_stops _ _ _ inv.proceeds put.stays (put.counts.0 c.in-Ok-eq0.field-0-test (omega arith));
       calm = λ room h k.
           let fits : length (take (length bytes - done) (drop done bytes)) ≤ room - done = omega arith in
