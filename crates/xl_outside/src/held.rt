@@ -80,7 +80,7 @@ impl Held {
         self.len = end;
     }
 
-    /// Lets the first bytes go.
+    /// Drops the first bytes.
     pub(crate) fn drop_front(&mut self, count: usize)
         requires { count ≤ length self.old }
         ensures { self.new ≡ drop count self.old }

@@ -6,7 +6,7 @@ ghost use Rattle.std.specs.Prelude.{◌≡◌, ◌≤◌, List, ℕ, length};
 pub(crate) const LONGEST: usize = 112;
 
 /// A text of at most 112 bytes that is put together where it stays: a copy of what was just written
-/// in small pieces has to wait for them.
+/// in small pieces stalls until they are stored.
 pub trait Text {
     /// Its bytes.
     ghost bytes: { Self → List ℕ };
