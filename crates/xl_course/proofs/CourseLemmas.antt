@@ -1,7 +1,7 @@
 -- Courses that are served part by part.
-use Rattle.xl_course.proofs.Common.{◌++◌, ◌+◌, ◌-◌, ◌<◌, ◌∙◌, ◌∷◌, ◌≡◌, ◌≤◌, [], ap, append_assoc, arith, at_last, before, Bool, Course, course, course_by, drop, drop_all, drop_more, ended, Err, false, finish, found_of, Gives, HasServed, InputFault, items_of, items_of_all, length, List, Meaning, None, Numbered, Ok, Option, ran, ran_all, Reached, refl, Result, Serves, ServesPart, SinkMeaning, Skimmed, slice_get, Some, states_after, Stop, subst, suc, sym, true, zero, ℕ}
+use Rattle.xl_course.proofs.Common.{◌++◌, ◌+◌, ◌-◌, ◌<◌, ◌∙◌, ◌∷◌, ◌≡◌, ◌≤◌, [], ap, append_assoc, arith, at_last, before, Bool, Course, course, course_by, drop, drop_all, drop_more, ended, Err, false, finish, HasServed, InputFault, items_of, items_of_all, length, List, Meaning, None, Ok, Option, ran, ran_all, Reached, refl, Result, Serves, ServesNext, ServesPart, ServesRecord, SinkMeaning, Skimmed, slice_get, Some, states_after, Stop, subst, suc, sym, true, zero, ℕ}
 use Rattle.std.proofs.lemmas.Option.{get_or_from_slice_get, slice_get_within}
-use Rattle.xl_model.specs.Courses.{Accesses, at_end, Trail}
+use Rattle.xl_model.specs.Courses.{Accesses, Trail}
 use Rattle.xl_course.proofs.ServedLemmas.{served-unprinted, served_cut, served_none, served_on}
 use Rattle.xl_course.specs.declared.form.Step.{Step}
 use Rattle.xl_course.specs.declared.stop.Stop.TheVariants as why
@@ -105,32 +105,34 @@ module _ {K C I S : Type 0} (m : Meaning C I S) (sink : SinkMeaning K) (answers 
   serves_on a b c p q s k l n (Err why.NoMemory) x y = absurd y
   serves_on a b c p q s k l n (Err why.ReadFault) x y = record { left = y.left; reached = reached_on a b y.left p q s k l n x y.reached }
 
+  -- a record is the first of a course
+  first-before : (now later : Rules I) (t u : Trail) (r : Accesses) (next : Trail → Course I) → Steps m now later → t ≡ record u { records = r ∷ u.records }
+      → left_by now t next ≡ before (items_of m r) (left_by later u next)
+  first-before now later t u r next steps e = ap (λ (v : Trail). left_by now v next) e ∙ steps.first r u.records u.fault next
+
   -- one record more
-  pub going_on : (mid after : Type 0) (by : (Trail → Course I) → Course I) (now later : Rules I) (t u : Trail) (r : Numbered) (p q s : S) (k l n : K)
-      → Steps m now later → On mid by (left_by now t) p q k l → Gives after t u (Ok (Some r)) → Has (items_of m (found_of r)) q s l n true
+  pub going_on : (mid after : Type 0) (by : (Trail → Course I) → Course I) (now later : Rules I) (t u : Trail) (p q s : S) (k l n : K) (b : Bool)
+      → Steps m now later → On mid by (left_by now t) p q k l → b ≡ true → ServesNext m sink answers after t u q s l n (Ok b)
       → On after by (left_by later u) p s k n
-  going_on mid after by now later t u r p q s k l n steps g f x = record {
+  going_on mid after by now later t u p q s k l n false steps g e f = cc
+  going_on mid after by now later t u p q s k l n true steps g e f = record {
     serves = λ next.
-        let items : List I = items_of m (found_of r) in
-        let e : left_by now t next ≡ before items (left_by later u next) =
-        ap (λ (v : Trail). left_by now v next) f.1 ∙ steps.first (found_of r) u.records u.fault next in
         reached_on (by next) (left_by now t next) (left_by later u next) p q s k l n (g.serves next)
-        (record { done = items; split = e; served = x });
+        (record { done = items_of m f.1.first; split = first-before now later t u f.1.first next steps f.1.split; served = f.1.served });
     still_reads = f.0;
   }
 
   -- a put failed in the midst of a record
-  pub going_lost : (A : Type 0) (mid after : Type 0) (by : (Trail → Course I) → Course I) (now later : Rules I) (t u : Trail) (r : Numbered) (p q s : S) (k l n : K)
-      → Steps m now later → On mid by (left_by now t) p q k l → Gives after t u (Ok (Some r)) → Has (items_of m (found_of r)) q s l n false
+  going_lost : (A : Type 0) (mid after : Type 0) (by : (Trail → Course I) → Course I) (now later : Rules I) (t u : Trail) (p q s : S) (k l n : K)
+      → Steps m now later → On mid by (left_by now t) p q k l → ServesRecord m sink answers t u q s l n false
       → ServesPart {A = A} m sink answers after by u p s k n (Err why.WriteFault)
-  going_lost A mid after by now later t u r p q s k l n steps g f x = record {
+  going_lost A mid after by now later t u p q s k l n steps g f = record {
     serves = λ next.
-        let items : List I = items_of m (found_of r) in
-        let e : left_by now t next ≡ before items (left_by later u next) =
-        ap (λ (v : Trail). left_by now v next) f.1 ∙ steps.first (found_of r) u.records u.fault next in
+        let items : List I = items_of m f.first in
+        let e : left_by now t next ≡ before items (left_by later u next) = first-before now later t u f.first next steps f.split in
         lost_on (by next) (left_by now t next) p q s k l n (g.serves next)
         (subst (λ (zs : List I). Has zs q s l n false) (sym (ap (λ (z : Course I). z.items) e))
-        (served_cut m sink answers items (left_by later u next).items q s l n x));
+        (served_cut m sink answers items (left_by later u next).items q s l n f.served));
     still_reads = tt;
   }
 
@@ -138,32 +140,38 @@ module _ {K C I S : Type 0} (m : Meaning C I S) (sink : SinkMeaning K) (answers 
   pub underway_none : (after : Type 0) (rules : Rules I) (t : Trail) (p : S) (k : K) → after → On after (left_by rules t) (left_by rules t) p p k k
   underway_none after rules t p k s = record { serves = λ next. reached_none (left_by rules t next) p k; still_reads = s }
 
+  -- nothing more was served
+  reached_still : (by now : (Trail → Course I) → Course I) (mid : Type 0) (p q s : S) (k l n : K) (next : Trail → Course I)
+      → On mid by now p q k l → Has [] q s l n true → Comes (by next) (now next) p s k n
+  reached_still by now mid p q s k l n next g x =
+      reached_on (by next) (now next) (now next) p q s k l n (g.serves next) (record { done = []; split = refl; served = x })
+
   -- the trace has ended
-  pub going_ends : {A : Type 0} (mid after : Type 0) (by : (Trail → Course I) → Course I) (now later : Rules I) (t u : Trail) (p q : S) (k l : K) (v : A)
-      → Steps m now later → On mid by (left_by now t) p q k l → Gives after t u (Ok None)
-      → ServesPart m sink answers after by u p q k l (Ok v)
-  going_ends mid after by now later t u p q k l v steps g f = record {
+  pub going_ends : {A : Type 0} (mid after : Type 0) (by : (Trail → Course I) → Course I) (now later : Rules I) (t u : Trail) (p q s : S) (k l n : K) (v : A) (b : Bool)
+      → Steps m now later → On mid by (left_by now t) p q k l → b ≡ false → ServesNext m sink answers after t u q s l n (Ok b)
+      → ServesPart m sink answers after by u p s k n (Ok v)
+  going_ends mid after by now later t u p q s k l n v true steps g e f = cc
+  going_ends mid after by now later t u p q s k l n v false steps g e f = record {
     serves = λ next.
-        let e : left_by now t next ≡ next u = ap (λ (w : Trail). left_by now w next) f.1 ∙ steps.last None next ∙ ap next (sym f.2) in
-        subst (λ (c : Course I). Comes (by next) c p q k l) e (g.serves next);
+        let e : left_by now t next ≡ next u = ap (λ (w : Trail). left_by now w next) f.1.reason.0 ∙ steps.last None next ∙ ap next (sym f.1.reason.1) in
+        subst (λ (c : Course I). Comes (by next) c p s k n) e (reached_still by (left_by now t) mid p q s k l n next g f.1.served);
     still_reads = f.0;
   }
 
-  ends_at : (mid : Type 0) (by : (Trail → Course I) → Course I) (now later : Rules I) (t : Trail) (p q : S) (k l : K) (e : Option InputFault) (next : Trail → Course I)
-      → Steps m now later → On mid by (left_by now t) p q k l → t ≡ at_end e → at_last e next ≡ ended e → Comes (by next) (ended e) p q k l
-  ends_at mid by now later t p q k l e next steps g f h =
-      subst (λ (c : Course I). Comes (by next) c p q k l) (ap (λ (w : Trail). left_by now w next) f ∙ steps.last e next ∙ h) (g.serves next)
-
-  -- the trace stopped: why it did, is why the course ends
-  pub going_stops : (A : Type 0) (mid after : Type 0) (by : (Trail → Course I) → Course I) (now later : Rules I) (t u : Trail) (p q : S) (k l : K) (stop : Stop)
-      → Steps m now later → On mid by (left_by now t) p q k l → Gives after t u (Err stop)
-      → ServesPart {A = A} m sink answers after by u p q k l (Err stop)
-  going_stops A mid after by now later t u p q k l why.WriteFault steps g f = absurd f
-  going_stops A mid after by now later t u p q k l why.NoMemory steps g f = absurd f
-  going_stops A mid after by now later t u p q k l why.ReadFault steps g f =
-      record { serves = λ next. record { left = left_by now t next; reached = g.serves next }; still_reads = tt }
-  going_stops A mid after by now later t u p q k l (why.Input fault) steps g f =
-      record { serves = λ next. ends_at mid by now later t p q k l (Some fault) next steps g f refl; still_reads = tt }
+  -- serving stopped: a put failed, or why the trace did is why the course ends
+  pub going_stops : (A : Type 0) (mid after : Type 0) (by : (Trail → Course I) → Course I) (now later : Rules I) (t u : Trail) (p q s : S) (k l n : K) (stop : Stop)
+      → Steps m now later → On mid by (left_by now t) p q k l → ServesNext m sink answers after t u q s l n (Err stop)
+      → ServesPart {A = A} m sink answers after by u p s k n (Err stop)
+  going_stops A mid after by now later t u p q s k l n why.WriteFault steps g f = going_lost A mid after by now later t u p q s k l n steps g f
+  going_stops A mid after by now later t u p q s k l n why.NoMemory steps g f = absurd f
+  going_stops A mid after by now later t u p q s k l n why.ReadFault steps g f =
+      record { serves = λ next. record { left = left_by now t next; reached = reached_still by (left_by now t) mid p q s k l n next g f.served }; still_reads = tt }
+  going_stops A mid after by now later t u p q s k l n (why.Input fault) steps g f = record {
+    serves = λ next.
+        let e : left_by now t next ≡ ended (Some fault) = ap (λ (w : Trail). left_by now w next) f.reason ∙ steps.last (Some fault) next in
+        subst (λ (c : Course I). Comes (by next) c p s k n) e (reached_still by (left_by now t) mid p q s k l n next g f.served);
+    still_reads = tt;
+  }
 
   -- a step, and then what continues
   part_then : {A : Type 0} (after : Type 0) (a : Course I) (by : (Trail → Course I) → Course I) (next : Trail → Course I) (u : Trail) (p q s : S) (k l n : K) (r : Result A Stop)
@@ -211,11 +219,6 @@ module _ {K C I S : Type 0} (m : Meaning C I S) (sink : SinkMeaning K) (answers 
   through_rest mid after whole cs i t u p q s k l n r h g x =
       part_then after whole (ran_all m t.records t.fault) finish u p q s k l n r
       (subst (λ (ds : List (Step C)). Comes whole (course m ds t) p q k l) (drop_all i cs h) g.reached) x
-
--- where a put failed, nothing is said of the state after
-pub lost-any : {K C I S : Type 0} {m : Meaning C I S} {sink : SinkMeaning K} (answers : Bool) (xs : List I) (p q r : S) (k l : K)
-    → HasServed m sink answers xs p q k l false → HasServed m sink answers xs p r k l false
-lost-any answers xs p q r k l x = record { state_is = tt; writes = x.writes }
 
 module _ {K C I S : Type 0} (m : Meaning C I S) (sink : SinkMeaning K) (reads_from : Type 0) (t u : Trail) (q s : S) (count : ℕ)
     (k : Skimmed m reads_from t u q s count) (out : K) where

@@ -1,5 +1,5 @@
 -- What the steps of a run say of its account.
-use Rattle.xl_course.proofs.Common.{◌++◌, ◌+◌, ◌-◌, ◌∙◌, ◌≡◌, ◌≤◌, Account, account, ap, append-nil, arith, before, Bool, Course, EndAfter, ended, Ends, Err, false, front_of_more, InputFault, inr, is_all_put, joined, last_where, length, length-append, List, Meaning, None, Ok, Option, printed_by, printings, Proceeds, proceeds_same, Reached, refl, Result, Serves, sink_then, SinkAfter, SinkMeaning, Some, states_after, Stop, StopsServing, StopsSource, subst, sym, text_of, true, with_more, WroteFront, ℕ}
+use Rattle.xl_course.proofs.Common.{◌++◌, ◌+◌, ◌-◌, ◌∙◌, ◌≡◌, ◌≤◌, Account, account, ap, append-nil, arith, before, Bool, Course, EndAfter, ended, Ends, Err, false, front_of_more, InputFault, inr, is_all_put, joined, last_where, length, length-append, List, Meaning, None, Ok, Option, printed_by, printings, Proceeds, proceeds_same, Reached, refl, Result, Serves, sink_then, SinkAfter, SinkMeaning, Some, states_after, Stop, StopsServing, subst, sym, text_of, true, with_more, WroteFront, ℕ}
 use Rattle.xl_course.proofs.MeaningLemmas.{printed-append, printings-append}
 use Rattle.xl_course.specs.declared.stop.Stop.TheVariants as why
 
@@ -127,13 +127,6 @@ end_proceeds sink late text a b (Err why.WriteFault) x = x.proceeds
 end_proceeds sink late text a b (Err why.ReadFault) x = absurd x
 end_proceeds sink late text a b (Err (why.Input f)) x = absurd x
 end_proceeds sink late text a b (Err why.NoMemory) x = subst (λ k. Proceeds true (sink.outside a) (sink.outside k)) (sym x.1) (proceeds_same (sink.outside a))
-
--- where a source stops, no put has failed
-pub put_still : (stop : Stop) → StopsSource stop → is_all_put {A = Unit {0}} (Err stop) ≡ true
-put_still (why.Input f) h = refl
-put_still why.ReadFault h = refl
-put_still why.WriteFault h = absurd h
-put_still why.NoMemory h = absurd h
 
 -- NoMemory ends a report only where its end is made in memory
 pub late_of : {K : Type 0} (sink : SinkMeaning K) (late : Bool) (text : List ℕ) (a b : K) (r : Result (Unit {0}) Stop)

@@ -1,11 +1,12 @@
 -- The state and the sink after serving.
-use Rattle.std.specs.Prelude.{◌≡◌, ℕ, Bool, true, false, List, ◌++◌, length, Option, Some, Result, Ok, Err, OnOk}
-use Rattle.xl_model.specs.Courses.{Accesses, Trail}
+use Rattle.std.specs.Prelude.{◌≡◌, ℕ, Bool, true, false, List, [], ◌∷◌, ◌++◌, length, None, Some, Result, Ok, Err, OnOk}
+use Rattle.xl_model.specs.Courses.{Accesses, Trail, at_end}
 use Rattle.xl_outside.specs.Sinks.{SinkMeaning, SinkAfter}
 use Rattle.xl_course.specs.declared.stop.Stop.{Stop}
 use Rattle.xl_course.specs.declared.stop.Stop.TheVariants as why
 use Rattle.xl_course.specs.Meanings.{Meaning, states_after, printed_by}
-use Rattle.xl_course.specs.Courses.{Course, before, ended, items_of_all}
+use Rattle.xl_course.specs.Courses.{Course, before, ended, items_of, items_of_all}
+use Rattle.xl_course.specs.Sources.{EndsBy}
 
 -- The state is that after the items; where a put failed, nothing is said of it.
 abbrev pub StateAfter : {C I S : Type 0} → Meaning C I S → Bool → List I → S → S → Type 0
@@ -51,3 +52,24 @@ pub record Skimmed {C I S : Type 0} (m : Meaning C I S) (reads_from : Type 0) (t
   pub split : t ≡ record u { records = taken ++ u.records }
   pub follow : q ≡ states_after m (items_of_all m taken) p
   pub many : length taken ≡ count
+
+-- The first record of what was left was served, and its lines were written: whole, or up to a put
+-- that failed. The rest of it is left.
+pub record ServesRecord {K C I S : Type 0} (m : Meaning C I S) (sink : SinkMeaning K) (answers : Bool) (t u : Trail) (p q : S) (k l : K) (whole : Bool) : Type 0 where
+  pub first : Accesses
+  pub split : t ≡ record u { records = first ∷ u.records }
+  pub served : HasServed m sink answers (items_of m first) p q k l whole
+
+-- Nothing was served, for this reason.
+pub record ServesNone {K C I S : Type 0} (m : Meaning C I S) (sink : SinkMeaning K) (answers : Bool) (cause : Type 0) (p q : S) (k l : K) : Type 0 where
+  pub reason : cause
+  pub served : HasServed m sink answers [] p q k l true
+
+-- What a call returns that serves the next record, if there is one: whether there was one.
+abbrev pub ServesNext : {K C I S : Type 0} (m : Meaning C I S) (sink : SinkMeaning K) → Bool → Type 0 → Trail → Trail → S → S → K → K → Result Bool Stop → Type 0
+ServesNext m sink answers reads_from t u p q k l (Ok true) = reads_from × ServesRecord m sink answers t u p q k l true
+ServesNext m sink answers reads_from t u p q k l (Ok false) = reads_from × ServesNone m sink answers ((t ≡ at_end None) × (u ≡ at_end None)) p q k l
+ServesNext m sink answers reads_from t u p q k l (Err (why.Input fault)) = ServesNone m sink answers (EndsBy (why.Input fault) t) p q k l
+ServesNext m sink answers reads_from t u p q k l (Err why.ReadFault) = ServesNone m sink answers (EndsBy why.ReadFault t) p q k l
+ServesNext m sink answers reads_from t u p q k l (Err why.WriteFault) = ServesRecord m sink answers t u p q k l false
+ServesNext m sink answers reads_from t u p q k l (Err why.NoMemory) = ⊥

@@ -1,6 +1,6 @@
 //! The steps of a script, served over a trace.
 
-ghost use Rattle.std.specs.Prelude.{◌≡◌, ◌≤◌, ◌∷◌, [], List, IfErr, IfSome, is_ok, true};
+ghost use Rattle.std.specs.Prelude.{◌≡◌, ◌<◌, ◌≤◌, ◌∷◌, [], List, IfErr, IfOk, IfSome, is_ok, true};
 ghost use Rattle.xl_model.specs.Courses.{Trail};
 ghost use Rattle.xl_outside.specs.Folders.{Files, FolderAfter, fate_by};
 ghost use Rattle.xl_outside.specs.Sinks.{Proceeds};
@@ -8,7 +8,7 @@ ghost use Rattle.xl_course.specs.declared.form.Step.{Step};
 ghost use Rattle.xl_course.specs.Sources.{found_of};
 ghost use Rattle.xl_course.specs.Courses.{commands_of, items_of, ran, ran_all, course_by, course, ended};
 ghost use Rattle.xl_course.specs.Stops.{stop_fate, is_all_put, StopsServing};
-ghost use Rattle.xl_course.specs.Serving.{HasServed, Serves, ServesPart, Skimmed};
+ghost use Rattle.xl_course.specs.Serving.{HasServed, Serves, ServesNext, ServesPart, Skimmed};
 
 use crate::form::{Form, Orders, Step};
 use crate::source::{Numbered, Source};
@@ -141,6 +141,47 @@ fn skim<R, D: Form<R>, T: Source, const ANSWERS: bool>(
     form.skim(rack, source, most)
 }
 
+/// Serves the next record, if there is one, and returns whether there was one. Where lines are
+/// written, a record that is at hand is served apart: it stays in registers, while `next` gives
+/// each through memory.
+#[inline(always)]
+fn serve_next<R, D: Form<R>, T: Source, F: Folder, K: Sink, const ANSWERS: bool>(
+    form: &mut D,
+    rack: &mut R,
+    source: &mut T,
+    folder: &mut F,
+    out: &mut K,
+) -> Result<bool, Stop>
+    ensures known { IfSome (F.folder.files folder.old) (λ fs. T.reads_from source.old fs
+        → ServesNext D.meaning K.sink ANSWERS (T.reads_from source.new fs)
+        (T.left source.old fs) (T.left source.new fs)
+        (D.state form.old rack.old) (D.state form.new rack.new) out.old out.new result) }
+    ensures leaves { FolderAfter F.folder folder.old folder.new
+        (fate_by stop_fate result) }
+    ensures proceeds { Proceeds (is_all_put result) (K.sink.outside out.old)
+        (K.sink.outside out.new) }
+    ensures caused { IfErr result StopsServing }
+    ensures shrinks { IfOk result (λ some. some ≡ true
+        → T.size source.new < T.size source.old) }
+    ensures can { (commands : List D.Command)
+        → D.can form.old rack.old commands → D.can form.new rack.new commands }
+{
+    if ANSWERS {
+        if let Some(found) = source.next_held() {
+            serve_record::<R, D, K, ANSWERS>(form, rack, &found, out)?;
+            return Ok(true);
+        }
+    }
+    match source.next(folder) {
+        Ok(Some(found)) => {
+            serve_record::<R, D, K, ANSWERS>(form, rack, &found, out)?;
+            Ok(true)
+        }
+        Ok(None) => Ok(false),
+        Err(stop) => Err(stop),
+    }
+}
+
 /// Serves all records that are left.
 fn serve_rest<R, D: Form<R>, T: Source, F: Folder, K: Sink, const ANSWERS: bool>(
     form: &mut D,
@@ -164,9 +205,9 @@ fn serve_rest<R, D: Form<R>, T: Source, F: Folder, K: Sink, const ANSWERS: bool>
 {
     'records: loop {
         skim::<R, D, T, ANSWERS>(form, rack, source, u64::MAX);
-        match source.next(folder) {
-            Ok(Some(found)) => serve_record::<R, D, K, ANSWERS>(form, rack, &found, out)?,
-            Ok(None) => return Ok(()),
+        match serve_next::<R, D, T, F, K, ANSWERS>(form, rack, source, folder, out) {
+            Ok(true) => {}
+            Ok(false) => return Ok(()),
             Err(stop) => return Err(stop),
         }
     }
@@ -197,9 +238,9 @@ fn serve_run<R, D: Form<R>, T: Source, F: Folder, K: Sink, const ANSWERS: bool>(
     let mut left = n;
     'records: while left > 0 {
         let taken = skim::<R, D, T, ANSWERS>(form, rack, source, left - 1);
-        match source.next(folder) {
-            Ok(Some(found)) => serve_record::<R, D, K, ANSWERS>(form, rack, &found, out)?,
-            Ok(None) => return Ok(()),
+        match serve_next::<R, D, T, F, K, ANSWERS>(form, rack, source, folder, out) {
+            Ok(true) => {}
+            Ok(false) => return Ok(()),
             Err(stop) => return Err(stop),
         }
         left -= taken + 1;

@@ -1,6 +1,6 @@
 //! Where the records of a trace come from.
 
-ghost use Rattle.std.specs.Prelude.{◌≡◌, ℕ, ◌<◌, ◌≤◌, length, IfSome, IsSome, IfOk, IfErr};
+ghost use Rattle.std.specs.Prelude.{◌≡◌, ℕ, ◌<◌, ◌≤◌, length, Ok, Some, IfSome, IfNone, IsSome, IfOk, IfErr};
 ghost use Rattle.xl_model.specs.Courses.{Trail};
 ghost use Rattle.xl_outside.specs.Folders.{Files, FolderAfter, fate_by};
 ghost use Rattle.xl_course.specs.Stops.{stop_fate, StopsSource};
@@ -36,6 +36,15 @@ pub trait Source: Sized {
             (fate_by stop_fate result) }
         ensures caused { IfErr result StopsSource }
         ensures shrinks { IfOk result (λ r. IsSome r → size self.new < size self.old) };
+
+    /// The next record, where it is at hand: no file is read for it, and it is returned in registers.
+    /// None: nothing changes, ask `next`.
+    fn next_held(&mut self) -> Option<Numbered>
+        ensures some { IfSome result (λ r. (fs : Files) → reads_from self.old fs
+            → Gives (reads_from self.new fs) (left self.old fs) (left self.new fs)
+            (Ok (Some r))) }
+        ensures none { IfNone result (self.new ≡ self.old) }
+        ensures shrinks { IsSome result → size self.new < size self.old };
 
     /// Takes the next records that are held, `most` at most, while each is in Lackey's own form and
     /// its bytes lie in one page; appends their accesses, while there is room. Returns how many

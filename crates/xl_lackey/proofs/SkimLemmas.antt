@@ -1,7 +1,8 @@
 -- Records taken one after another.
-use Rattle.xl_lackey.proofs.Common.{◌%◌, ◌++◌, ◌+◌, ◌<◌, ◌^◌, ◌∙◌, ◌∷◌, ◌≡◌, ◌≤◌, [], Access, accesses_in, all_accesses, ap, append-nil, append_assoc, ap₂, arith, Bad, drop, drop-drop, Found, HasAccesses, IsFirstLine, IsRecordLine, IsSure, Kind, Left, length, length-append, length-drop, length-set, lines_by, lines_of, List, map, map-append, next_line, None, pair, Record, records, refl, set, Skim, skim_at, Skimmed, Skims, skims_both, Skipped, State, subst, sym, take, take-set-le, take_more_set, Taken, Takes, Verdict, with_record, with_records, ℕ, accesses_near, one_if, Bool, true, false, Store}
+use Rattle.xl_lackey.proofs.Common.{◌%◌, ◌++◌, ◌+◌, ◌<◌, ◌^◌, ◌∙◌, ◌∷◌, ◌≡◌, ◌≤◌, [], Access, accesses_in, all_accesses, ap, append-nil, append_assoc, ap₂, arith, Bad, drop, drop-drop, Found, Gives, HasAccesses, IsFirstLine, IsRecordLine, IsSure, Kind, Left, length, length-append, length-drop, length-set, lines_by, lines_of, List, map, map-append, next_line, None, pair, Record, records, refl, set, Skim, skim_at, Skimmed, Skims, skims_both, Skipped, State, subst, sym, take, take-set-le, take_more_set, Taken, Takes, Verdict, with_record, with_records, ℕ, accesses_near, one_if, Bool, true, false, Store}
 use Rattle.xl_lackey.proofs.SplitLemmas.{first_is, IsFirst, on_from, records_step}
 use Rattle.xl_lackey.proofs.StepLemmas.{left_passed}
+use Rattle.xl_lackey.specs.declared.reference.Letter.{Letter}
 
 -- no record was taken
 pub taken_none : (xs : List Access) → Taken xs xs 0
@@ -87,6 +88,23 @@ skimmed old new text n xs ys s h a b k e =
       reads = λ last rest m. left_passed last old new text n s.used s.lines (with_records k.of.taken) h a b (k.reads last) e rest;
       no_more = omega (arith, size, length-drop s.used old.held);
       finished = ap (λ (u : State). u.finished) e;
+    }
+
+-- a reader that gives the record of the first line that it holds
+pub gives_first : (old new : State) (text : List ℕ) (used n : ℕ) (l : Letter) (addr size : ℕ) → old.bad ≡ None → text ≡ old.held → n ≡ next_line old.lines
+    → IsFirstLine text used (Found l addr size) → new ≡ record old { lines = n; held = drop used old.held }
+    → Gives (record { letter = l; addr = addr; size = size; line = n }) old new
+gives_first old new text used n l addr size h a b line e =
+    let r : Record = record { letter = l; addr = addr; size = size; line = n } in
+    let v : Verdict = Found l addr size in
+    let after = drop used text in
+    let first : IsFirst text after v = first_is text after v line.line in
+    let left = ap (λ (u : State). length u.held) e in record {
+      reads = λ last rest m. left_passed last old new text old.lines used n (with_record r) h a refl
+          (λ bs. sym (records_step last old.lines n text bs first.line after v _ first.parts refl b first.verdict)) e rest;
+      fewer = omega (arith, left, length-drop used old.held, line.some, line.within, ap length a);
+      finished = ap (λ (u : State). u.finished) e;
+      good = ap (λ (u : State). u.bad) e ∙ h;
     }
 
 pub skimmed_none : (s : State) (xs : List Access) → Skimmed s s xs xs 0

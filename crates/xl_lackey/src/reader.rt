@@ -1,6 +1,6 @@
 //! A reader that is fed the trace in pieces.
 
-ghost use Rattle.std.specs.Prelude.{◌≡◌, ◌≢◌, ◌↔◌, ℕ, ◌+◌, ◌-◌, ◌<◌, ◌≤◌, ◌++◌, [], List, Bool, true, false, length, take, drop, Option, Some, None, IfOk};
+ghost use Rattle.std.specs.Prelude.{◌≡◌, ◌≢◌, ◌↔◌, ℕ, ◌+◌, ◌-◌, ◌<◌, ◌≤◌, ◌++◌, [], List, Bool, true, false, length, take, drop, Option, Some, None, IfOk, IfSome, IfNone};
 ghost use Rattle.xl_lackey.specs.Lines.{parted};
 ghost use Rattle.xl_lackey.specs.Stream.{fresh, left, left_by, records_of, NeedsMore};
 ghost use Rattle.xl_lackey.specs.Answers.{Answers};
@@ -14,6 +14,7 @@ use crate::prefixes::PrefixCache;
 use crate::reference::Reference;
 use crate::scan::read_lines;
 use crate::skim::skim_lines;
+use crate::usual::{NEAR, near_line};
 use std::alloc::Global;
 use std::marker::Model;
 use std::mem::swap;
@@ -149,6 +150,34 @@ impl Reader {
             }),
             Verdict::Bad { reason } => self.refuse(scan.lines, reason),
         }
+    }
+
+    /// The next record, where its whole line is held, in Lackey's own form, and its bytes lie in one
+    /// page. None: nothing was read, ask `next`. The record is returned in registers, where `next`
+    /// returns it through memory.
+    #[inline(always)]
+    pub fn next_near(&mut self) -> Option<Reference>
+        ensures some { IfSome result (λ r. Answers (Next.Found r) self.old self.new) }
+        ensures none { IfNone result (self.new ≡ self.old) }
+    {
+        let None = self.bad_line() else {
+            return None;
+        };
+        if self.held().len() < NEAR {
+            return None;
+        }
+        let (used, verdict) = near_line(self.held())?;
+        let Verdict::Found { letter, addr, size } = verdict else {
+            return None;
+        };
+        let line = self.lines().wrapping_add(1);
+        self.pass(used, line);
+        Some(Reference {
+            letter,
+            addr,
+            size,
+            line,
+        })
     }
 
     /// Takes the next records, `most` at most, while each is in Lackey's own form and its bytes lie

@@ -80,6 +80,14 @@ pub access-space : (row : Row) (va : ℕ) (k : Kind) (s : RowState) → (after_e
 unfolding after_event rule done accessed
 access-space row va k s = where-space (is_canonical row.mode va) k (page_of row.mode va) s
 
+-- the line of an access, by what its machine tells after it
+pub line-known : (number va space : ℕ) (k : Kind) (answer : Reply) (row : RowFields) (v w : Served) → answer ≡ reply_to v.row v.state va k → w ≡ after_of (event.Access va k) v
+    → space ≡ w.state.space → row_of row ≡ w.row → answer_line row.name.bytes number k space va answer ≡ access_line v.row number va k v.state
+line-known number va space k answer row v w is after at named =
+    let s : space ≡ v.state.space = at ∙ ap (λ (u : Served). u.state.space) after ∙ access-space v.row va k v.state in
+    let same : row_of row ≡ v.row = named ∙ ap (λ (u : Served). u.row) after in
+    rw (s, is) (ap (λ (r : Row). answer_line r.name number k v.state.space va (reply_to v.row v.state va k)) same)
+
 -- where no map was done, nothing more is served
 again-none : (o : Outcome) (va : ℕ) (k : Kind) (v : Served) → (o ≡ outcome.Done → ⊥) → again_after o va k v ≡ v
 again-none outcome.Done va k v not = absurd (not refl)
@@ -121,22 +129,6 @@ module _ {K : Type 0} (sink : SinkMeaning K) (answers : Bool) (i : ℕ) where
       (λ v h. rw is (declared-after area areas v)) (λ v h. rw is (declared-lines area areas v)) (none-at sink answers i p k)
 
 module _ {K : Type 0} (sink : SinkMeaning K) (answers : Bool) (i number va : ℕ) (kind : Kind) where
-  -- the row was served an access, and its line was written
-  pub access-line-known : (space : ℕ) (answer : Reply) (row : RowFields) (p q : List Served) (k l : K) (whole : Bool) → answers ≡ true
-      → IfSome (slice_get q i) (λ v. space ≡ v.state.space) → IfSome (slice_get p i) (λ v. answer ≡ reply_to v.row v.state va kind)
-      → q ≡ at_place (after_of (event.Access va kind)) i p → IfSome (slice_get q i) (λ v. row_of row ≡ v.row)
-      → SinkAfter sink (answer_line row.name.bytes number kind space va answer) k l whole
-      → ServedAt sink answers i (after_of (event.Access va kind)) (access_known number va kind) p q k l whole
-  access-line-known space answer row p q k l whole asked at is after named known =
-      known-at sink answers i (after_of (event.Access va kind)) (access_known number va kind) p q k l whole (answer_line row.name.bytes number kind space va answer) after
-      (λ v h.
-      let t : answer ≡ reply_to v.row v.state va kind = some-of _ _ v is h in
-      let got : slice_get q i ≡ Some (after_of (event.Access va kind) v) = ap (λ (rows : List Served). slice_get rows i) after ∙ get-at_place (after_of (event.Access va kind)) i p v h in
-      let same : row_of row ≡ v.row = some-of _ _ (after_of (event.Access va kind) v) named got in
-      let s : space ≡ v.state.space = some-of _ _ (after_of (event.Access va kind) v) at got ∙ access-space v.row va kind v.state in
-      rw (asked, s, t) (ap (λ (r : Row). answer_line r.name number kind v.state.space va (reply_to v.row v.state va kind)) same))
-      known
-
   pub not-again : (o : Outcome) (p : List Served) (k : K) → (o ≡ outcome.Done → ⊥)
       → ServedAt sink answers i (again_after o va kind) (again_known o number va kind) p p k k true
   not-again o p k not =

@@ -1,5 +1,5 @@
 -- A row at a place that is served one thing after another.
-use Rattle.xl_rack.proofs.Common.{◌++◌, ◌<◌, ◌∙◌, ◌≡◌, [], ap, at_place, Bool, false, length, line_where, List, RowsAfter, Served, ServedAt, SinkAfter, SinkMeaning, slice_get, Some, subst, sym, true, ℕ}
+use Rattle.xl_rack.proofs.Common.{◌++◌, ◌<◌, ◌∙◌, ◌≡◌, [], ap, at_place, Bool, false, IfSome, length, line_where, List, RowsAfter, Served, ServedAt, SinkAfter, SinkMeaning, slice_get, Some, subst, sym, true, ℕ}
 use Rattle.xl_rack.proofs.LineLemmas.{lines-cut, lines-none, lines-then}
 use Rattle.xl_rack.proofs.PlaceLemmas.{at_place-at_place, get-at_place, if-some, kept-at_place, length-at_place, same-at_place, some-of}
 
@@ -31,6 +31,14 @@ module _ {K : Type 0} (sink : SinkMeaning K) (answers : Bool) (i : ℕ) where
   known-at f lines p q k l whole text is same known = record {
     rows_are = rows-is whole f i p q is;
     writes = if-some _ _ (λ v e. let P : List ℕ → Type 0 = λ t. SinkAfter sink t k l whole in subst P (same v e) known);
+  }
+
+  -- the row was served, and its lines were written
+  pub told-at : (f : Served → Served) (lines : Served → List ℕ) (p q : List Served) (k l : K) (whole : Bool) → answers ≡ true → q ≡ at_place f i p
+      → IfSome (slice_get p i) (λ v. SinkAfter sink (lines v) k l whole) → ServedAt sink answers i f lines p q k l whole
+  told-at f lines p q k l whole asked is told = record {
+    rows_are = rows-is whole f i p q is;
+    writes = if-some _ _ (λ v e. subst (λ (b : Bool). SinkAfter sink (line_where b (lines v)) k l whole) (sym asked) (some-of _ _ v told e));
   }
 
   -- the same in other words

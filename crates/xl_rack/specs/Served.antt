@@ -1,5 +1,5 @@
 -- One row of several that is served.
-use Rattle.std.specs.Prelude.{◌≡◌, ℕ, Bool, true, false, List, Option, IfSome, slice_get}
+use Rattle.std.specs.Prelude.{◌≡◌, ℕ, Bool, true, false, List, IfSome, slice_get}
 use Rattle.xl_model.specs.Scenes.{Served}
 use Rattle.xl_outside.specs.Sinks.{SinkMeaning, SinkAfter}
 use Rattle.xl_rack.specs.Places.{at_place}

@@ -9,19 +9,12 @@ ghost use Rattle.xl_machine.specs.Served.{accessed_by, after_of};
 ghost use Rattle.xl_rack.specs.Demands.{demand_after, again_after};
 ghost use Rattle.xl_rack.specs.Served.{ServedAt};
 
+use crate::answer::Numbered;
 use crate::rack::Rack;
 use xl_areas::{Areas, map_for};
-use xl_model::{Area, Event, Kind, Outcome, Reply};
+use xl_model::{Area, Event, Outcome, Reply};
 use xl_outside::{Failed, Sink};
-use xl_report::{Answered, write_answer, write_command};
-
-/// An access of the record of this number.
-#[derive(Clone, Copy)]
-pub(crate) struct Numbered {
-    pub(crate) number: u64,
-    pub(crate) va: u64,
-    pub(crate) kind: Kind,
-}
+use xl_report::write_command;
 
 /// Serves an event of a command to a row, and writes its line where it is asked for.
 pub(crate) fn serve_command<K: Sink>(
@@ -63,21 +56,10 @@ fn serve_once<K: Sink>(
         (λ v. access_line v.row access.number access.va access.kind v.state)
         rack.old rack.new out.old out.new (is_ok result) }
 {
-    let reply = rack.access(i, access.va, access.kind);
-    if !answers {
-        return Ok(reply);
-    }
-    let space = rack.space(i);
-    let answered = Answered {
-        number: access.number,
-        kind: access.kind,
-        space,
-        va: access.va,
-        reply,
-    };
-    match write_answer(out, rack.row(i), answered) {
-        Ok(()) => Ok(reply),
-        Err(failed) => Err(failed),
+    if answers {
+        rack.answer(i, access, out)
+    } else {
+        Ok(rack.access(i, access.va, access.kind))
     }
 }
 

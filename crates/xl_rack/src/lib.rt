@@ -2,6 +2,7 @@
 //! served by one after another.
 #![tactic(auto)]
 
+mod answer;
 mod batch;
 mod beside;
 mod demand;

@@ -1,12 +1,13 @@
 //! The rack.
 
-ghost use Rattle.std.specs.Prelude.{◌≡◌, ◌<◌, ◌≤◌, ◌++◌, [], ◌∷◌, length, map, slice_get, Some, IfOk, IfSome, OnOk, OnErr};
+ghost use Rattle.std.specs.Prelude.{◌≡◌, ◌<◌, ◌≤◌, ◌++◌, [], ◌∷◌, length, map, slice_get, is_ok, Some, IfOk, IfSome, OnOk, OnErr};
 ghost use Rattle.std.specs.List.{All};
 ghost use Rattle.xl_machine.specs.Served.{accessed_by, after_of};
 ghost use Rattle.xl_model.specs.RowRun.{outcome_of, reply_to};
 ghost use Rattle.xl_model.specs.Rows.{row_of, IsRow};
-ghost use Rattle.xl_model.specs.Scenes.{opened};
+ghost use Rattle.xl_model.specs.Scenes.{access_line, opened};
 ghost use Rattle.xl_model.specs.Tally.{IsSmall};
+ghost use Rattle.xl_outside.specs.Sinks.{SinkAfter};
 ghost use Rattle.xl_serving.specs.Batches.{gaps};
 ghost use Rattle.xl_rack.specs.Forms.{form_named};
 ghost use Rattle.xl_rack.specs.Batches.{row_served, batch_served};
@@ -14,6 +15,7 @@ ghost use Rattle.xl_rack.specs.Beside.{curve_served, curve_stepped, each_curve};
 ghost use Rattle.xl_rack.specs.Places.{at_place};
 ghost use Rattle.xl_rack.specs.Slots.{served_of, slot_form, IsNamed};
 
+use crate::answer::Numbered;
 use crate::batch::serve_slots;
 use crate::beside::{Part, serve_slots_beside};
 use crate::slot::Slot;
@@ -23,6 +25,7 @@ use xl_areas::Areas;
 use xl_curve::Curve;
 use xl_lackey::Access;
 use xl_model::{Counts, Event, Kind, NoMemory, Outcome, Reply, Row};
+use xl_outside::{Failed, Sink};
 use xl_serving::BatchedEvent;
 
 /// The most rows of a rack.
@@ -75,6 +78,28 @@ fn access_at(slots: &mut [Slot], i: usize, va: u64, kind: Kind) -> Reply
 {
     let slot = &mut slots[i];
     slot.access(va, kind)
+}
+
+/// Serves an access by the slot at a place, and writes its line.
+#[inline(always)]
+fn answer_at<K: Sink>(
+    slots: &mut [Slot],
+    i: usize,
+    access: Numbered,
+    out: &mut K,
+) -> Result<Reply, Failed>
+    requires { i < length slots.old }
+    ensures reply { IfOk result (λ r. IfSome (slice_get (map served_of slots.old) i)
+        (λ v. r ≡ reply_to v.row v.state access.va access.kind)) }
+    ensures after { map served_of slots.new ≡
+        at_place (accessed_by access.va access.kind) i (map served_of slots.old) }
+    ensures named { All IsNamed slots.old → All IsNamed slots.new }
+    ensures line { IfSome (slice_get (map served_of slots.old) i) (λ v. SinkAfter K.sink
+        (access_line v.row access.number access.va access.kind v.state)
+        out.old out.new (is_ok result)) }
+{
+    let slot = &mut slots[i];
+    slot.answer(access, out)
 }
 
 impl Rack {
@@ -136,6 +161,26 @@ impl Rack {
         ensures small { IsSmall result }
     {
         access_at(&mut self.slots, i, va, kind)
+    }
+
+    /// Serves an access by the machine at a place, from 0, and writes its line. No other row
+    /// changes.
+    #[inline(always)]
+    pub(crate) fn answer<K: Sink>(
+        &mut self,
+        i: usize,
+        access: Numbered,
+        out: &mut K,
+    ) -> Result<Reply, Failed>
+        requires { i < length self.old }
+        ensures reply { IfOk result (λ r. IfSome (slice_get self.old i)
+            (λ v. r ≡ reply_to v.row v.state access.va access.kind)) }
+        ensures after { self.new ≡ at_place (accessed_by access.va access.kind) i self.old }
+        ensures line { IfSome (slice_get self.old i) (λ v. SinkAfter K.sink
+            (access_line v.row access.number access.va access.kind v.state)
+            out.old out.new (is_ok result)) }
+    {
+        answer_at(&mut self.slots, i, access, out)
     }
 
     /// Serves accesses, with the events of their demands, and the events among them, by each

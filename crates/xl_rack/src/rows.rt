@@ -8,7 +8,8 @@ ghost use Rattle.xl_outside.specs.Sinks.{SinkAfter};
 ghost use Rattle.xl_serving.specs.Serving.{HasServed, scene_of};
 ghost use Rattle.xl_rack.specs.Served.{ServedAt};
 
-use crate::demand::{Numbered, serve_access, serve_command};
+use crate::answer::Numbered;
+use crate::demand::{serve_access, serve_command};
 use crate::image::write_images;
 use crate::object::rows_json;
 use crate::rack::Rack;

@@ -1,6 +1,8 @@
 -- What the reader's answer says of the records that are left.
-use Rattle.xl_serving.proofs.Common.{◌%◌, ◌++◌, ◌+◌, ◌<◌, ◌^◌, ◌∙◌, ◌∷◌, ◌≡◌, ◌≤◌, [], Accesses, accesses_of, ahead, ap, arith, Bool, cases_lt, drop, drop_all, due, false, false_from_ne_true, fault_of, inl, InputFault, inr, IsUnfed, IsWithin, KeepsLeft, Left, left, left_by, length, limit, List, MayCome, next_number, None, numbered, Option, Progress, Record, Some, State, sym, take, TraceTooLong, Trail, trail, true, with_records, ℕ}
+use Rattle.xl_serving.proofs.Common.{◌%◌, ◌++◌, ◌+◌, ◌<◌, ◌^◌, ◌∙◌, ◌∷◌, ◌≡◌, ◌≤◌, [], Accesses, accesses_of, ahead, ap, arith, Bool, cases_lt, drop, drop_all, due, false, false_from_ne_true, fault_of, inl, InputFault, inr, IsFedFrom, IsUnfed, IsWithin, KeepsLeft, Left, left, left_by, left_of, length, limit, List, MayCome, next_number, None, numbered, Option, Progress, Record, refl, Some, State, sym, take, TraceTooLong, Trail, trail, true, with_records, ℕ}
+use Rattle.xl_lackey.specs.Answers.{Gives}
 use Rattle.xl_serving.proofs.PieceLemmas.{long, short}
+use Rattle.xl_serving.specs.Traces.{with_record}
 
 -- a file past the limit isn't at its end
 unfinished : (file : List ℕ) (p : Progress) → IsWithin file p → limit < length file → p.reader.finished ≡ false
@@ -58,6 +60,16 @@ module _ (file : List ℕ) (rs : List Record) (old new : Progress) (w : IsWithin
 
   pub gives_all : ahead file old ≡ with_numbered old.number rs (ahead file new)
   gives_all = elim (cases_lt limit (length file)) [ inl h ↦ gives_long h | inr h ↦ gives_short h ]
+
+-- a record that a reader gives, the trace gives; of a file that isn't there none was read
+pub gives_record : (file : Option (List ℕ)) (r : Record) (old new : Progress) → old.number < 2 ^ 64 → Gives r old.reader new.reader → new.at ≡ old.at
+    → new.number ≡ next_number old.number → IsFedFrom file old → IsFedFrom file new × (left_of file old ≡ with_record (accesses_of old.number r) (left_of file new))
+gives_record None r old new below g a m u = absurd (some_left (left old.reader []) (left new.reader []) (g.reads true [] (λ _. refl)) u.none)
+  where
+    some_left : (l later : Left) → l ≡ (r ∷ later.0, later.1) → ¬ (l ≡ ([], None))
+    some_left l later e none = let f : r ∷ later.0 ≡ [] = ap (λ (x : Left). x.0) (sym e ∙ none) in cc
+gives_record (Some file) r old new below g a m w =
+    (same_within file old new w a g.finished, gives_all file (r ∷ []) old new w below g.reads a m)
 
 -- What is left is still the same; nothing was fed of a file that isn't there.
 abbrev pub Still : Option (List ℕ) → Progress → Progress → Type 0

@@ -1,7 +1,9 @@
 //! The made trace, whose records are taken as they are made.
 
-ghost use Rattle.std.specs.Prelude.{◌≡◌, length};
-ghost use Rattle.xl_serving.specs.Traces.{made_left, made_trail};
+ghost use Rattle.std.specs.Prelude.{◌≡◌, ◌<◌, length, None, IfSome, IfNone, IsSome};
+ghost use Rattle.xl_model.specs.Courses.{at_end};
+ghost use Rattle.xl_course.specs.Sources.{found_of};
+ghost use Rattle.xl_serving.specs.Traces.{made_left, made_trail, with_record};
 
 use std::marker::Model;
 use xl_course::{Numbered, Source, Stop};
@@ -34,12 +36,14 @@ impl Source for MadeTape {
     ghost size = { λ t. length t.rest };
 
     fn next<F: Folder>(&mut self, _folder: &mut F) -> Result<Option<Numbered>, Stop> {
-        let number = self.given.wrapping_add(1);
-        let Some(reference) = self.trace.next(number) else {
-            return Ok(None);
-        };
-        self.given = number;
-        Ok(Some(Numbered { number, reference }))
+        match self.take_next() {
+            Some(found) => Ok(Some(found)),
+            None => Ok(None),
+        }
+    }
+
+    fn next_held(&mut self) -> Option<Numbered> {
+        self.take_next()
     }
 
     fn skim(&mut self, into: &mut Batch, most: u64) -> u64 {
@@ -58,5 +62,21 @@ impl MadeTape {
             trace: MadeTrace::new(n),
             given: 0,
         }
+    }
+
+    /// The next record, or None at the end.
+    fn take_next(&mut self) -> Option<Numbered>
+        ensures some { IfSome result
+            (λ r. made_left self.old ≡ with_record (found_of r) (made_left self.new)) }
+        ensures none { IfNone result (made_left self.old ≡ at_end None) }
+        ensures same { IfNone result (self.new ≡ self.old) }
+        ensures shrinks { IsSome result → length self.new.rest < length self.old.rest }
+    {
+        let number = self.given.wrapping_add(1);
+        let Some(reference) = self.trace.next(number) else {
+            return None;
+        };
+        self.given = number;
+        Some(Numbered { number, reference })
     }
 }

@@ -1,6 +1,6 @@
 //! A trace that is read in pieces while it is replayed.
 
-ghost use Rattle.std.specs.Prelude.{◌≡◌, ℕ, ◌+◌, ◌-◌, ◌^◌, ◌<◌, ◌≤◌, ◌⊎◌, ◌++◌, [], List, true, false, min, length, take, drop, nat_lt, Option, Some, None, IfOk, IfErr, OnOk, IfSome, IsSome};
+ghost use Rattle.std.specs.Prelude.{◌≡◌, ℕ, ◌+◌, ◌-◌, ◌^◌, ◌<◌, ◌≤◌, ◌⊎◌, ◌++◌, [], List, true, false, min, length, take, drop, nat_lt, Option, Some, None, Ok, IfOk, IfErr, OnOk, IfSome, IfNone, IsSome};
 ghost use Rattle.xl_outside.specs.Folders.{file_of, FolderAfter, fate_by, unread_fate};
 ghost use Rattle.xl_lackey.specs.Stream.{due};
 ghost use Rattle.xl_lackey.specs.Answers.{Answers};
@@ -86,6 +86,22 @@ impl Tape {
                 }
                 Next::More => self.fill(folder, name)?,
             }
+        }
+    }
+
+    /// The next record, where its whole line is held, in Lackey's own form, and its bytes lie in one
+    /// page. None: nothing changes.
+    #[inline(always)]
+    pub(crate) fn next_held(&mut self) -> Option<Numbered>
+        ensures some { IfSome result (λ r. (file : Option (List ℕ)) → IsFedFrom file self.old
+            → Gives (IsFedFrom file self.new) (left_of file self.old) (left_of file self.new)
+            (Ok (Some r))) }
+        ensures none { IfNone result (self.new ≡ self.old) }
+        ensures shrinks { IsSome result → size_of self.new < size_of self.old }
+    {
+        match self.reader.next_near() {
+            Some(reference) => Some(self.number(reference)),
+            None => None,
         }
     }
 

@@ -46,6 +46,11 @@ impl Source for TraceFile<'_> {
     }
 
     #[inline(always)]
+    fn next_held(&mut self) -> Option<Numbered> {
+        self.tape.next_held()
+    }
+
+    #[inline(always)]
     fn skim(&mut self, into: &mut Batch, most: u64) -> u64 {
         self.tape.skim(into, most)
     }
@@ -64,6 +69,10 @@ impl Source for NoTrace {
 
     fn next<F: Folder>(&mut self, _folder: &mut F) -> Result<Option<Numbered>, Stop> {
         Ok(None)
+    }
+
+    fn next_held(&mut self) -> Option<Numbered> {
+        None
     }
 
     fn skim(&mut self, _into: &mut Batch, _most: u64) -> u64 {
