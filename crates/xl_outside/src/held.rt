@@ -6,7 +6,7 @@ use crate::text::Text;
 use std::marker::Model;
 
 /// How many bytes are held at most.
-const ROOM: usize = 16384;
+const ROOM: usize = 65_536;
 
 /// Bytes that are held, at most `ROOM`. Contracts see them, and nothing else.
 #[derive(Drop)]
@@ -22,7 +22,7 @@ impl Model for Held {
 
     ghost view = { λ h. take h.len h.bytes };
 
-    ghost invariant = { λ h. h.len ≤ 16384 };
+    ghost invariant = { λ h. h.len ≤ 65536 };
 }
 
 impl Held {
@@ -53,14 +53,14 @@ impl Held {
     /// For how many more bytes there is room.
     #[inline(always)]
     pub(crate) fn room(&self) -> usize
-        ensures { result + length self.now ≡ 16384 }
+        ensures { result + length self.now ≡ 65536 }
     {
         ROOM - self.len
     }
 
     /// Holds these bytes after the others.
     pub(crate) fn add(&mut self, bytes: &[u8])
-        requires { length self.old + length bytes.now ≤ 16384 }
+        requires { length self.old + length bytes.now ≤ 65536 }
         ensures { self.new ≡ self.old ++ bytes.now }
     {
         let end = self.len + bytes.len();
@@ -72,7 +72,7 @@ impl Held {
     #[inline(always)]
     pub(crate) fn add_text<T: Text>(&mut self, text: &T, len: usize)
         requires len { len ≡ length (T.bytes text.now) }
-        requires room { length self.old + len ≤ 16384 }
+        requires room { length self.old + len ≤ 65536 }
         ensures { self.new ≡ self.old ++ T.bytes text.now }
     {
         let end = self.len + len;
