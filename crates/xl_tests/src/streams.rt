@@ -13,16 +13,16 @@ use xl_outside::{
 #[test]
 fn a_buffer_keeps_what_a_failing_put_did_not_take(rt: HostRuntime) -> Result<(), Fail> {
     let alloc = rt.alloc();
-    let sink = MemSink::open(alloc, 40000, vec![in alloc; 2]?, 10000).expect(&rt, "memory");
+    let sink = MemSink::open(alloc, 100000, vec![in alloc; 2]?, 10000).expect(&rt, "memory");
     let mut out = Buffered::over(sink);
     assert!(rt; put_all(&mut out, b"abcd").is_ok());
     assert!(rt; out.flush().is_ok());
-    assert!(rt; put_all(&mut out, &[b'e'; 16384]).is_ok());
+    assert!(rt; put_all(&mut out, &[b'e'; 65536]).is_ok());
     assert!(rt; matches!(out.put(b"f"), Err(Failed)));
     assert_eq!(rt; out.sink().bytes(), b"abcd".as_slice());
     assert!(rt; put_all(&mut out, b"f").is_ok());
     assert!(rt; out.flush().is_ok());
-    assert_eq!(rt; out.sink().bytes().len(), 16389);
+    assert_eq!(rt; out.sink().bytes().len(), 65541);
     Ok(())
 }
 
