@@ -1,42 +1,13 @@
 -- Accesses that are served by one row after another.
-use Rattle.xl_rack.proofs.Common.{◌++◌, ◌∙◌, ◌∷◌, ◌≡◌, [], Access, access_served, accessed_by, after_of, All, All-append, All-cons, All-drop, All-take, ap, Area, area_for, arith, batch_served, Command, demand_served, demanded, drop, EachServed, Event, form_named, IsFramed, IsNamed, Kind, List, map, map-append, map-id, None, Option, refl, Reply, reply_to, row_served, rows_after, scene_after, scene_of, scenes_after, Served, served_of, Slot, slot_form, Some, state_after, subst, suc, sym, take, take-append-drop, wanted, ℕ}
+use Rattle.xl_rack.proofs.Common.{◌++◌, ◌∙◌, ◌∷◌, ◌≡◌, [], Access, access_served, after_of, All, All-append, All-cons, All-drop, All-take, ap, Area, arith, batch_served, Command, drop, EachServed, Event, IsFramed, IsNamed, Kind, List, map, map-append, map-id, refl, reply_to, row_served, rows_after, scene_after, scene_of, scenes_after, Served, served_of, Slot, slot_form, state_after, subst, suc, sym, take, take-append-drop, ℕ}
 use Rattle.std.proofs.Math.Path.{fun_ext}
 use Rattle.std.proofs.lemmas.Simd.{map-map}
 use Rattle.xl_model_lemmas.proofs.SceneLemmas.{scene-append}
 use Rattle.xl_serving.specs.Batches.{item_of, items_batched}
 use Rattle.xl_serving.specs.declared.batch.BatchedEvent.{BatchedEvent}
-use Rattle.xl_rack.proofs.DemandLemmas.{access-space, referenced-is}
-use Rattle.xl_model.specs.declared.event.Event.TheVariants as event
+use Rattle.xl_rack.proofs.AnswerLemmas.{access-alone}
+use Rattle.xl_rack.proofs.SlotLemmas.{named-row}
 use Rattle.xl_model.specs.declared.leaf.Reply.TheVariants as reply
-
--- what an access wants, by its reply
-wanted-alone : (answer : Reply) (area : Option Area) → (answer ≡ reply.Unmapped → ⊥) → wanted answer area ≡ None
-wanted-alone reply.NotCanonical area not = refl
-wanted-alone reply.Unmapped area not = absurd (not refl)
-wanted-alone reply.Denied area not = refl
-wanted-alone (reply.Frame frame) area not = refl
-
--- the access is served, and then the map that it demands
-access-is : (va : ℕ) (k : Kind) (areas : List Area) (v : Served) (answer : Reply) → answer ≡ reply_to v.row v.state va k
-    → access_served va k areas v ≡ record v { state = demanded (wanted answer (area_for v.state.space va areas)) v.row va (event.Access va k) (accessed_by va k v).state }
-access-is va k areas v answer e =
-    ap (λ s. record v { state = s }) (referenced-is va k areas v.row v.state
-    ∙ ap (λ (a : Reply). demanded (wanted a (area_for v.state.space va areas)) v.row va (event.Access va k) (accessed_by va k v).state) (sym e))
-
-pub access-demands : (va : ℕ) (k : Kind) (areas : List Area) (v m n : Served) (answer : Reply) → answer ≡ reply_to v.row v.state va k → answer ≡ reply.Unmapped
-    → m ≡ accessed_by va k v → n ≡ demand_served va k areas m → n ≡ access_served va k areas v
-access-demands va k areas v m n answer e u after d =
-    d ∙ ap (demand_served va k areas) after
-    ∙ ap (λ (space : ℕ). record v { state = demanded (area_for space va areas) v.row va (event.Access va k) (accessed_by va k v).state }) (access-space v.row va k v.state)
-    ∙ ap (λ (a : Reply). record v { state = demanded (wanted a (area_for v.state.space va areas)) v.row va (event.Access va k) (accessed_by va k v).state }) (sym u)
-    ∙ sym (access-is va k areas v answer e)
-
-pub access-alone : (va : ℕ) (k : Kind) (areas : List Area) (v m : Served) (answer : Reply) → answer ≡ reply_to v.row v.state va k → (answer ≡ reply.Unmapped → ⊥)
-    → m ≡ accessed_by va k v → m ≡ access_served va k areas v
-access-alone va k areas v m answer e not after =
-    after
-    ∙ ap (λ (z : Option Area). record v { state = demanded z v.row va (event.Access va k) (accessed_by va k v).state }) (sym (wanted-alone answer (area_for v.state.space va areas) not))
-    ∙ sym (access-is va k areas v answer e)
 
 -- an access that a frame was returned for
 pub framed-alone : (va : ℕ) (k : Kind) (areas : List Area) (v m : Served) → IsFramed va k v m → m ≡ access_served va k areas v
@@ -88,26 +59,16 @@ batched-by-row accesses (w ∷ events) areas rows =
     ∙ ap (scenes_after (items_batched rest events)) (sym (scene-event w.event areas mid) ∙ ap (scene_after (Command w.event)) (row-by-row front areas rows))
     ∙ sym (scene-append (map item_of front) (Command w.event ∷ items_batched rest events) (scene_of rows areas))
 
-row-stays : (accesses : List Access) (areas : List Area) (v : Served) → (row_served accesses areas v).row ≡ v.row
+pub row-stays : (accesses : List Access) (areas : List Area) (v : Served) → (row_served accesses areas v).row ≡ v.row
 row-stays [] areas v = refl
 row-stays (a ∷ accesses) areas v = row-stays accesses areas (access_served a.va a.kind areas v)
 
-pub batched-stays : (accesses : List Access) (events : List BatchedEvent) (areas : List Area) (v : Served) → (batch_served accesses events areas v).row ≡ v.row
-batched-stays accesses [] areas v = row-stays accesses areas v
-batched-stays accesses (w ∷ events) areas v =
-    let front = take w.gap accesses in
-    batched-stays (drop w.gap accesses) events areas (after_of w.event (row_served front areas v)) ∙ row-stays front areas v
-
--- a slot stays of the form that its row names, where the row and the form stay
-named-row : (s t : Slot) → (served_of t).row ≡ (served_of s).row → slot_form t ≡ slot_form s → IsNamed s → IsNamed t
-named-row s t row form named = ap form_named row ∙ named ∙ ap Some (sym form)
-
 -- a slot before others
-pub each-first : {f : Served → Served} {s t : Slot} {slots ss ts : List Slot} → EachServed f ss ts → ((v : Served) → (f v).row ≡ v.row) → slots ≡ s ∷ ss
+pub each-first : {f : Served → Served} {s t : Slot} {slots ss ts : List Slot} → EachServed f ss ts → (served_of t).row ≡ (served_of s).row → slots ≡ s ∷ ss
     → served_of t ≡ f (served_of s) → slot_form t ≡ slot_form s → EachServed f slots (t ∷ ts)
 each-first {f} {s} {t} {slots} {ss} {ts} rest stays slots-are after form =
     let named : All IsNamed (s ∷ ss) → All IsNamed (t ∷ ts) =
-    λ all. All-cons IsNamed t ts (named-row s t (ap (λ (v : Served). v.row) after ∙ stays (served_of s)) form (all 0 s (omega arith)))
+    λ all. All-cons IsNamed t ts (named-row s t stays form (all 0 s (omega arith)))
     (rest.named (λ k d less. all (suc k) d (omega arith))) in
     subst (λ (xs : List Slot). EachServed f xs (t ∷ ts)) (sym slots-are) (record {
       served = ap (λ (v : Served). v ∷ map served_of ts) after ∙ ap (λ (vs : List Served). f (served_of s) ∷ vs) rest.served;

@@ -1,9 +1,6 @@
 mod Common
+mod SlotLemmas
+mod AnswerLemmas
 mod BatchLemmas
 mod BesideLemmas
-mod DemandLemmas
-mod LineLemmas
-pub mod PlaceLemmas
-mod RowsLemmas
-mod ServedAtLemmas
-mod SlotLemmas
+pub mod RowsLemmas

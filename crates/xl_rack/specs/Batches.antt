@@ -1,5 +1,5 @@
 -- Items that a row is served one after another without lines, an access with the events of its demand.
-use Rattle.std.specs.Prelude.{ℕ, List, [], ◌∷◌, take, drop}
+use Rattle.std.specs.Prelude.{ℕ, List, [], ◌∷◌, Option, take, drop}
 use Rattle.xl_model.specs.declared.address.Kind.{Kind}
 use Rattle.xl_model.specs.declared.event.Event.TheVariants as event
 use Rattle.xl_model.specs.declared.script.Area.{Area}
@@ -9,9 +9,13 @@ use Rattle.xl_machine.specs.Served.{after_of}
 use Rattle.xl_lackey.specs.declared.skim.Access.{Access}
 use Rattle.xl_serving.specs.declared.batch.BatchedEvent.{BatchedEvent}
 
+-- A row after what an area demands, where one does.
+abbrev pub demand_after : Option Area → ℕ → Kind → Served → Served
+demand_after area va k v = record v { state = demanded area v.row va (event.Access va k) v.state }
+
 -- A row after the demand of an access that was unmapped.
 abbrev pub demand_served : ℕ → Kind → List Area → Served → Served
-demand_served va k areas v = record v { state = demanded (area_for v.state.space va areas) v.row va (event.Access va k) v.state }
+demand_served va k areas v = demand_after (area_for v.state.space va areas) va k v
 
 -- A row after an access, with the events of its demand.
 abbrev pub access_served : ℕ → Kind → List Area → Served → Served

@@ -1,8 +1,5 @@
 pub mod Forms
-pub mod Lines
-pub mod Places
-pub mod Served
 pub mod Slots
+pub mod Answers
 pub mod Batches
-pub mod Demands
 pub mod Beside

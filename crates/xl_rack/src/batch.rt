@@ -1,5 +1,5 @@
 //! Items that rows are served without lines, in turn or side by side. Where a row is served alone,
-//! the kind of its table is chosen once for all items.
+//! the kind of its table is chosen once for all accesses between two events.
 
 ghost use Rattle.std.specs.Prelude.{◌≡◌, ◌&&◌, ◌≤◌, length, nat_lt, not};
 ghost use Rattle.std.specs.List.{list_any};
@@ -9,6 +9,7 @@ ghost use Rattle.xl_rack.specs.Batches.{demand_served, access_served, row_served
 ghost use Rattle.xl_rack.specs.Slots.{served_of, slot_form, has_no_arrays, EachServed};
 
 use crate::slot::{Slot, at_table};
+use crate::work::Work;
 use xl_areas::{Areas, map_for};
 use xl_lackey::Access;
 use xl_machine::Machine;
@@ -75,110 +76,88 @@ fn serve_all<S: Structure>(machine: &mut Machine<S>, accesses: &[Access], areas:
     }
 }
 
-/// Serves accesses to a machine one after another, and the events among them.
-fn serve_machine<S: Structure>(
-    machine: &mut Machine<S>,
-    accesses: &[Access],
-    events: &[BatchedEvent],
-    areas: &Areas,
-)
-    requires { gaps events.now ≤ length accesses.now }
-    ensures { machine.new ≡ batch_served accesses.now events.now areas.now machine.old }
-{
-    let Some((batched, later)) = events.split_first() else {
-        serve_all(machine, accesses, areas);
-        return;
-    };
-    let (before, following) = accesses.split_at(batched.gap);
-    serve_all(machine, before, areas);
-    let _outcome = machine.step(batched.event);
-    serve_machine(machine, following, later, areas);
+/// An event.
+#[derive(Clone, Copy)]
+struct OneEvent(Event);
+
+/// An access, with the events of its demand.
+#[derive(Clone, Copy)]
+struct OneAccess<'a> {
+    access: Access,
+    areas: &'a Areas,
 }
 
-/// Serves accesses to the machine of a slot, and the events among them.
-fn serve_slot(slot: &mut Slot, accesses: &[Access], events: &[BatchedEvent], areas: &Areas)
-    requires { gaps events.now ≤ length accesses.now }
-    ensures served { served_of slot.new
-        ≡ batch_served accesses.now events.now areas.now (served_of slot.old) }
-    ensures form { slot_form slot.new ≡ slot_form slot.old }
-{
-    at_table!(slot, machine => serve_machine(machine, accesses, events, areas))
+/// Accesses, one after another.
+#[derive(Clone, Copy)]
+struct Accesses<'a> {
+    accesses: &'a [Access],
+    areas: &'a Areas,
 }
 
-/// Serves accesses, and the events among them, to each slot in turn: all to the first, then to the
-/// next.
-fn serve_in_turn(slots: &mut [Slot], accesses: &[Access], events: &[BatchedEvent], areas: &Areas)
-    requires { gaps events.now ≤ length accesses.now }
-    ensures { EachServed (batch_served accesses.now events.now areas.now) slots.old slots.new }
-{
-    let Some((first, rest)) = slots.split_first_mut() else {
-        return;
-    };
-    serve_slot(first, accesses, events, areas);
-    serve_in_turn(rest, accesses, events, areas);
+impl Work for OneEvent {
+    ghost done = { λ w. after_of w.0 };
+
+    fn serve<S: Structure>(&self, machine: &mut Machine<S>) {
+        let _outcome = machine.step(self.0);
+    }
 }
 
-/// Serves an access, with the events of its demand, to the machine of a slot.
+impl Work for OneAccess<'_> {
+    ghost done = { λ w. access_served w.access.va w.access.kind w.areas.now };
+
+    #[inline(always)]
+    fn serve<S: Structure>(&self, machine: &mut Machine<S>) {
+        serve_one::<S, false, false>(machine, self.access.va, self.access.kind, self.areas);
+    }
+}
+
+impl Work for Accesses<'_> {
+    ghost done = { λ w. row_served w.accesses.now w.areas.now };
+
+    fn serve<S: Structure>(&self, machine: &mut Machine<S>) {
+        serve_all(machine, self.accesses, self.areas);
+    }
+}
+
+/// Serves work to the machine of a slot.
 #[inline(always)]
-fn serve_slot_once(slot: &mut Slot, va: u64, kind: Kind, areas: &Areas)
-    ensures served { served_of slot.new ≡ access_served va kind areas.now (served_of slot.old) }
+fn serve_slot<W: Work>(slot: &mut Slot, work: &W)
+    ensures served { served_of slot.new ≡ W.done work.now (served_of slot.old) }
+    ensures row { (served_of slot.new).row ≡ (served_of slot.old).row }
     ensures form { slot_form slot.new ≡ slot_form slot.old }
 {
-    at_table!(slot, machine => serve_one::<_, false, false>(machine, va, kind, areas))
+    at_table!(slot, machine => work.serve(machine))
 }
 
-/// Serves an access, with the events of its demand, to each slot.
-fn serve_to_each(slots: &mut [Slot], va: u64, kind: Kind, areas: &Areas)
-    ensures { EachServed (access_served va kind areas.now) slots.old slots.new }
+/// Serves work to each slot: whole to the first, then to the next.
+fn serve_each_slot<W: Work>(slots: &mut [Slot], work: &W)
+    ensures { EachServed (W.done work.now) slots.old slots.new }
 {
     let Some((first, rest)) = slots.split_first_mut() else {
         return;
     };
-    serve_slot_once(first, va, kind, areas);
-    serve_to_each(rest, va, kind, areas);
-}
-
-/// Serves accesses to the slots: each access to all of them, then the next.
-fn serve_each_to_all(slots: &mut [Slot], accesses: &[Access], areas: &Areas)
-    ensures { EachServed (row_served accesses.now areas.now) slots.old slots.new }
-{
-    let Some((access, later)) = accesses.split_first() else {
-        return;
-    };
-    serve_to_each(slots, access.va, access.kind, areas);
-    serve_each_to_all(slots, later, areas);
+    serve_slot(first, work);
+    serve_each_slot(rest, work);
 }
 
 /// Serves an event to each slot.
 pub(crate) fn step_each(slots: &mut [Slot], event: Event)
     ensures { EachServed (after_of event) slots.old slots.new }
 {
-    let Some((first, rest)) = slots.split_first_mut() else {
-        return;
-    };
-    let _outcome = first.step(event);
-    step_each(rest, event);
+    serve_each_slot(slots, &OneEvent(event));
 }
 
-/// Serves accesses, and the events among them, to the slots side by side: each to all slots, then
-/// the next. Hits and misses of rows go together, which helps branch prediction.
-fn serve_side_by_side(
-    slots: &mut [Slot],
-    accesses: &[Access],
-    events: &[BatchedEvent],
-    areas: &Areas,
-)
-    requires { gaps events.now ≤ length accesses.now }
-    ensures { EachServed (batch_served accesses.now events.now areas.now) slots.old slots.new }
+/// Serves accesses to the slots side by side: each access to all of them, then the next. Hits and
+/// misses of rows go together, which helps branch prediction.
+fn serve_side_by_side(slots: &mut [Slot], accesses: &[Access], areas: &Areas)
+    ensures { EachServed (row_served accesses.now areas.now) slots.old slots.new }
 {
-    let Some((batched, later)) = events.split_first() else {
-        serve_each_to_all(slots, accesses, areas);
+    let Some((access, later)) = accesses.split_first() else {
         return;
     };
-    let (before, following) = accesses.split_at(batched.gap);
-    serve_each_to_all(slots, before, areas);
-    step_each(slots, batched.event);
-    serve_side_by_side(slots, following, later, areas);
+    let access = *access;
+    serve_each_slot(slots, &OneAccess { access, areas });
+    serve_side_by_side(slots, later, areas);
 }
 
 /// Whether the machine of one of these slots has no arrays.
@@ -196,16 +175,30 @@ fn has_company(slots: &[Slot]) -> bool
     slots.len() > 1 && !one_lacks_tlb(slots)
 }
 
+/// Serves accesses to some slots.
+fn serve_accesses(slots: &mut [Slot], accesses: &[Access], areas: &Areas)
+    ensures { EachServed (row_served accesses.now areas.now) slots.old slots.new }
+{
+    if has_company(slots) {
+        serve_side_by_side(slots, accesses, areas);
+    } else {
+        serve_each_slot(slots, &Accesses { accesses, areas });
+    }
+}
+
 /// Serves accesses, and the events among them, to some slots.
 fn serve_group(slots: &mut [Slot], accesses: &[Access], events: &[BatchedEvent], areas: &Areas)
     requires { gaps events.now ≤ length accesses.now }
     ensures { EachServed (batch_served accesses.now events.now areas.now) slots.old slots.new }
 {
-    if has_company(slots) {
-        serve_side_by_side(slots, accesses, events, areas);
-    } else {
-        serve_in_turn(slots, accesses, events, areas);
-    }
+    let Some((batched, later)) = events.split_first() else {
+        serve_accesses(slots, accesses, areas);
+        return;
+    };
+    let (before, following) = accesses.split_at(batched.gap);
+    serve_accesses(slots, before, areas);
+    step_each(slots, batched.event);
+    serve_group(slots, following, later, areas);
 }
 
 /// Interleaving limit: the arrays of more rows presumably don't fit in the processor's first cache.

@@ -5,12 +5,12 @@
 mod answer;
 mod batch;
 mod beside;
-mod demand;
 mod image;
 mod object;
 mod rack;
 mod rows;
 mod slot;
+mod work;
 
 pub use rack::Rack;
 pub use slot::Slot;

@@ -2,20 +2,18 @@
 
 ghost use Rattle.std.specs.Prelude.{◌≡◌, ◌<◌, ◌≤◌, ◌++◌, [], ◌∷◌, length, map, slice_get, is_ok, Some, IfOk, IfSome, OnOk, OnErr};
 ghost use Rattle.std.specs.List.{All};
-ghost use Rattle.xl_machine.specs.Served.{accessed_by, after_of};
-ghost use Rattle.xl_model.specs.RowRun.{outcome_of, reply_to};
+ghost use Rattle.xl_machine.specs.Served.{after_of};
 ghost use Rattle.xl_model.specs.Rows.{row_of, IsRow};
-ghost use Rattle.xl_model.specs.Scenes.{access_line, opened};
-ghost use Rattle.xl_model.specs.Tally.{IsSmall};
+ghost use Rattle.xl_model.specs.Scenes.{opened, rows_after, rows_lines};
 ghost use Rattle.xl_outside.specs.Sinks.{SinkAfter};
 ghost use Rattle.xl_serving.specs.Batches.{gaps};
+ghost use Rattle.xl_rack.specs.Answers.{EqualWhere};
 ghost use Rattle.xl_rack.specs.Forms.{form_named};
 ghost use Rattle.xl_rack.specs.Batches.{row_served, batch_served};
 ghost use Rattle.xl_rack.specs.Beside.{curve_served, curve_stepped, each_curve};
-ghost use Rattle.xl_rack.specs.Places.{at_place};
 ghost use Rattle.xl_rack.specs.Slots.{served_of, slot_form, IsNamed};
 
-use crate::answer::Numbered;
+use crate::answer::answer_slots;
 use crate::batch::serve_slots;
 use crate::beside::{Part, serve_slots_beside};
 use crate::slot::Slot;
@@ -24,7 +22,7 @@ use std::marker::Model;
 use xl_areas::Areas;
 use xl_curve::Curve;
 use xl_lackey::Access;
-use xl_model::{Counts, Event, Kind, NoMemory, Outcome, Reply, Row};
+use xl_model::{Counts, Event, Item, NoMemory, Row};
 use xl_outside::{Failed, Sink};
 use xl_serving::BatchedEvent;
 
@@ -50,56 +48,6 @@ impl Model for Rack {
     ghost view = { λ r. map served_of r.slots.items };
 
     ghost invariant = { λ r. (16 ≤ vec_capacity r.slots) × All IsNamed r.slots.items };
-}
-
-/// Serves an event by the slot at a place.
-fn step_at(slots: &mut [Slot], i: usize, event: Event) -> Outcome
-    requires { i < length slots.old }
-    ensures outcome { IfSome (slice_get (map served_of slots.old) i)
-        (λ v. result ≡ outcome_of v.row event v.state) }
-    ensures after { map served_of slots.new ≡
-        at_place (after_of event) i (map served_of slots.old) }
-    ensures named { All IsNamed slots.old → All IsNamed slots.new }
-{
-    let slot = &mut slots[i];
-    slot.step(event)
-}
-
-/// Serves an access by the slot at a place.
-#[inline(always)]
-fn access_at(slots: &mut [Slot], i: usize, va: u64, kind: Kind) -> Reply
-    requires { i < length slots.old }
-    ensures reply { IfSome (slice_get (map served_of slots.old) i)
-        (λ v. result ≡ reply_to v.row v.state va kind) }
-    ensures after { map served_of slots.new ≡
-        at_place (accessed_by va kind) i (map served_of slots.old) }
-    ensures named { All IsNamed slots.old → All IsNamed slots.new }
-    ensures small { IsSmall result }
-{
-    let slot = &mut slots[i];
-    slot.access(va, kind)
-}
-
-/// Serves an access by the slot at a place, and writes its line.
-#[inline(always)]
-fn answer_at<K: Sink>(
-    slots: &mut [Slot],
-    i: usize,
-    access: Numbered,
-    out: &mut K,
-) -> Result<Reply, Failed>
-    requires { i < length slots.old }
-    ensures reply { IfOk result (λ r. IfSome (slice_get (map served_of slots.old) i)
-        (λ v. r ≡ reply_to v.row v.state access.va access.kind)) }
-    ensures after { map served_of slots.new ≡
-        at_place (accessed_by access.va access.kind) i (map served_of slots.old) }
-    ensures named { All IsNamed slots.old → All IsNamed slots.new }
-    ensures line { IfSome (slice_get (map served_of slots.old) i) (λ v. SinkAfter K.sink
-        (access_line v.row access.number access.va access.kind v.state)
-        out.old out.new (is_ok result)) }
-{
-    let slot = &mut slots[i];
-    slot.answer(access, out)
 }
 
 impl Rack {
@@ -142,45 +90,14 @@ impl Rack {
         self.slots.len()
     }
 
-    /// Serves an event by the machine at a place, from 0. No other row changes.
-    pub fn step(&mut self, i: usize, event: Event) -> Outcome
-        requires { i < length self.old }
-        ensures outcome { IfSome (slice_get self.old i)
-            (λ v. result ≡ outcome_of v.row event v.state) }
-        ensures after { self.new ≡ at_place (after_of event) i self.old }
+    /// Serves an item that declares no area by each machine in turn, and writes their lines. Where a
+    /// put fails, the item is not served by all.
+    pub fn answer<K: Sink>(&mut self, item: Item, areas: &Areas, out: &mut K) -> Result<(), Failed>
+        ensures rows { EqualWhere (is_ok result) self.new (rows_after item areas.now self.old) }
+        ensures lines { SinkAfter K.sink (rows_lines item areas.now self.old)
+            out.old out.new (is_ok result) }
     {
-        step_at(&mut self.slots, i, event)
-    }
-
-    /// Serves an access by the machine at a place, from 0. No other row changes.
-    pub fn access(&mut self, i: usize, va: u64, kind: Kind) -> Reply
-        requires { i < length self.old }
-        ensures reply { IfSome (slice_get self.old i)
-            (λ v. result ≡ reply_to v.row v.state va kind) }
-        ensures after { self.new ≡ at_place (accessed_by va kind) i self.old }
-        ensures small { IsSmall result }
-    {
-        access_at(&mut self.slots, i, va, kind)
-    }
-
-    /// Serves an access by the machine at a place, from 0, and writes its line. No other row
-    /// changes.
-    #[inline(always)]
-    pub(crate) fn answer<K: Sink>(
-        &mut self,
-        i: usize,
-        access: Numbered,
-        out: &mut K,
-    ) -> Result<Reply, Failed>
-        requires { i < length self.old }
-        ensures reply { IfOk result (λ r. IfSome (slice_get self.old i)
-            (λ v. r ≡ reply_to v.row v.state access.va access.kind)) }
-        ensures after { self.new ≡ at_place (accessed_by access.va access.kind) i self.old }
-        ensures line { IfSome (slice_get self.old i) (λ v. SinkAfter K.sink
-            (access_line v.row access.number access.va access.kind v.state)
-            out.old out.new (is_ok result)) }
-    {
-        answer_at(&mut self.slots, i, access, out)
+        answer_slots(&mut self.slots, &item, areas, out)
     }
 
     /// Serves accesses, with the events of their demands, and the events among them, by each
@@ -217,14 +134,6 @@ impl Rack {
         ensures { IfSome (slice_get self.entry.now i) (λ v. row_of result.now ≡ v.row) }
     {
         self.slots[i].brief().row
-    }
-
-    /// The current space of the row at a place, from 0.
-    pub fn space(&self, i: usize) -> u16
-        requires { i < length self.now }
-        ensures { IfSome (slice_get self.now i) (λ v. result ≡ v.state.space) }
-    {
-        self.slots[i].brief().space
     }
 
     /// The counts so far of the row at a place, from 0.

@@ -1,25 +1,19 @@
 //! A place of the rack: a machine over one of the tables.
 
-ghost use Rattle.std.specs.Prelude.{◌≡◌, ◌≤◌, ◌==◌, IfOk, is_ok, length};
-ghost use Rattle.xl_machine.specs.Served.{accessed_by, after_of, opened};
+ghost use Rattle.std.specs.Prelude.{◌≡◌, ◌≤◌, ◌==◌, IfOk, length};
+ghost use Rattle.xl_machine.specs.Served.{opened};
 ghost use Rattle.xl_model.specs.declared.row.Table.TheVariants as table;
 ghost use Rattle.xl_model.specs.Addresses.{levels_of};
-ghost use Rattle.xl_model.specs.RowRun.{outcome_of, reply_to};
 ghost use Rattle.xl_model.specs.Rows.{row_of, IsRow};
-ghost use Rattle.xl_model.specs.Scenes.{access_line};
-ghost use Rattle.xl_model.specs.Tally.{IsSmall};
-ghost use Rattle.xl_outside.specs.Sinks.{SinkAfter};
 ghost use Rattle.xl_rack.specs.Forms.{IsCuckoo};
 ghost use Rattle.xl_rack.specs.Slots.{served_of, slot_form, IsNamed};
 
-use crate::answer::{Numbered, answer_by};
 use std::alloc::Global;
 use xl_clustered::Clustered;
 use xl_cuckoo_walk::CuckooRow;
 use xl_hashed::Hashed;
 use xl_machine::Machine;
-use xl_model::{Counts, Event, Kind, Mode, NoMemory, Outcome, Reply, Row, Structure, Table};
-use xl_outside::{Failed, Sink};
+use xl_model::{Counts, Mode, NoMemory, Row, Structure, Table};
 use xl_radix_walk::RadixRow;
 use xl_range::Ranges;
 
@@ -56,22 +50,19 @@ macro_rules! at_table {
 
 pub(crate) use at_table;
 
-/// A machine's row, its current space, and whether it has no arrays.
+/// A machine's row, and whether it has no arrays.
 #[derive(Drop)]
 pub(crate) struct Brief<'a> {
     pub(crate) row: &'a Row,
-    pub(crate) space: u16,
     pub(crate) lacks_tlb: bool,
 }
 
 fn brief_of<S: Structure>(machine: &Machine<S>) -> Brief<'_>
     ensures row { row_of result.row.now ≡ machine.entry.now.row }
-    ensures space { result.space ≡ machine.entry.now.state.space }
     ensures lacks_tlb { result.lacks_tlb ≡ (length machine.entry.now.state.arrays == 0) }
 {
     Brief {
         row: machine.row(),
-        space: machine.space(),
         lacks_tlb: machine.lacks_tlb(),
     }
 }
@@ -234,45 +225,9 @@ impl Slot {
         }
     }
 
-    /// Serves an event.
-    pub(crate) fn step(&mut self, event: Event) -> Outcome
-        ensures outcome { result ≡
-            outcome_of (served_of self.old).row event (served_of self.old).state }
-        ensures after { served_of self.new ≡ after_of event (served_of self.old) }
-        ensures form { slot_form self.new ≡ slot_form self.old }
-    {
-        at_table!(self, machine => machine.step(event))
-    }
-
-    /// Serves an access.
-    pub(crate) fn access(&mut self, va: u64, kind: Kind) -> Reply
-        ensures reply { result ≡
-            reply_to (served_of self.old).row (served_of self.old).state va kind }
-        ensures after { served_of self.new ≡ accessed_by va kind (served_of self.old) }
-        ensures form { slot_form self.new ≡ slot_form self.old }
-        ensures small { IsSmall result }
-    {
-        at_table!(self, machine => machine.access(va, kind))
-    }
-
-    /// Serves an access, and writes its line.
-    #[inline(always)]
-    pub(crate) fn answer<K: Sink>(&mut self, access: Numbered, out: &mut K) -> Result<Reply, Failed>
-        ensures reply { IfOk result (λ r. r ≡ reply_to (served_of self.old).row
-            (served_of self.old).state access.va access.kind) }
-        ensures after { served_of self.new
-            ≡ accessed_by access.va access.kind (served_of self.old) }
-        ensures form { slot_form self.new ≡ slot_form self.old }
-        ensures line { SinkAfter K.sink (access_line (served_of self.old).row access.number
-            access.va access.kind (served_of self.old).state) out.old out.new (is_ok result) }
-    {
-        at_table!(self, machine => answer_by(machine, access, out))
-    }
-
-    /// The machine's row and space, and whether it has no arrays.
+    /// The machine's row, and whether it has no arrays.
     pub(crate) fn brief(&self) -> Brief<'_>
         ensures row { row_of result.row.now ≡ (served_of self.entry.now).row }
-        ensures space { result.space ≡ (served_of self.entry.now).state.space }
         ensures lacks_tlb { result.lacks_tlb
             ≡ (length (served_of self.entry.now).state.arrays == 0) }
     {

@@ -20,7 +20,7 @@ use std::alloc::Global;
 use xl_areas::Areas;
 use xl_course::{Form, Orders, Source, Step, Stop};
 use xl_lackey::Access;
-use xl_model::{Area, Command, Event, NoMemory};
+use xl_model::{Area, Command, Event, Item, NoMemory};
 use xl_outside::{Failed, Sink};
 use xl_script::Script;
 use xl_words::Plain;
@@ -131,7 +131,8 @@ impl<R: Rows> Form<R> for Bench {
     ) -> Result<(), Failed> {
         if answers {
             self.quiet(rows);
-            return rows.access(number, access, &self.areas, answers, out);
+            let Access { va, kind } = access;
+            return rows.answer(Item::Referenced { number, va, kind }, &self.areas, out);
         }
         self.batch.put_off(rows, &self.areas, access);
         Ok(())
@@ -211,8 +212,7 @@ impl Bench {
         Ok(())
     }
 
-    /// Serves an event of a command. Queued only after other items, where no line is written;
-    /// otherwise served at once.
+    /// Serves an event of a command; queues it where no line is written.
     fn event<R: Rows, K: Sink>(
         &mut self,
         rows: &mut R,
@@ -226,9 +226,9 @@ impl Bench {
             out.old out.new (is_ok result) }
         ensures areas { self.new.areas ≡ self.old.areas }
     {
-        if answers || self.batch.is_idle() {
+        if answers {
             self.quiet(rows);
-            return rows.command(event, &self.areas, answers, out);
+            return rows.answer(Item::Command(event), &self.areas, out);
         }
         self.batch.put_off_event(rows, &self.areas, event);
         Ok(())

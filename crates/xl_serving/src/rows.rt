@@ -1,7 +1,7 @@
 //! What a script is served to.
 
-ghost use Rattle.std.specs.Prelude.{◌≡◌, ◌<◌, ◌≤◌, ◌++◌, List, [], ◌∷◌, length, string_bytes, is_ok, IfOk, OnOk, OnErr};
-ghost use Rattle.xl_model.specs.declared.script.Item.TheVariants.{Command, Referenced};
+ghost use Rattle.std.specs.Prelude.{◌≡◌, ◌<◌, ◌≤◌, ◌++◌, List, [], ◌∷◌, true, length, string_bytes, is_ok, IfOk, OnOk, OnErr};
+ghost use Rattle.xl_model.specs.Items.{areas_after};
 ghost use Rattle.xl_model.specs.Rows.{row_of, IsRow};
 ghost use Rattle.xl_model.specs.Scenes.{Served, opened, scenes_after};
 ghost use Rattle.xl_model.specs.Report.{row_lines, images_lines};
@@ -14,11 +14,10 @@ use crate::batch::BatchedEvent;
 use std::alloc::Global;
 use xl_areas::Areas;
 use xl_lackey::Access;
-use xl_model::{Event, NoMemory, Row};
+use xl_model::{Item, NoMemory, Row};
 use xl_outside::{Failed, Sink};
 
-/// Rows that are served: each item, with the events of its demand, by one row after another. Where
-/// answers are asked for, the lines of an item are written as it is served.
+/// Rows that are served: each item, with the events of its demand, by one row after another.
 pub trait Rows: Sized {
     /// The rows with their states, in the order in which they were added.
     ghost rows: { Self → List Served };
@@ -31,28 +30,10 @@ pub trait Rows: Sized {
         ensures added { OnOk result (rows self.new ≡ rows self.old ++ opened (row_of row ∷ [])) }
         ensures none { OnErr result (rows self.new ≡ rows self.old) };
 
-    /// Serves an event of a command, where these areas were declared.
-    fn command<K: Sink>(
-        &mut self,
-        event: Event,
-        areas: &Areas,
-        answers: bool,
-        out: &mut K,
-    ) -> Result<(), Failed>
-        ensures { HasServed K.sink answers (Command event ∷ [])
-            (scene_of (rows self.old) areas.now) (scene_of (rows self.new) areas.now)
-            out.old out.new (is_ok result) };
-
-    /// Serves an access of the record of this number, where these areas were declared.
-    fn access<K: Sink>(
-        &mut self,
-        number: u64,
-        access: Access,
-        areas: &Areas,
-        answers: bool,
-        out: &mut K,
-    ) -> Result<(), Failed>
-        ensures { HasServed K.sink answers (Referenced number access.va access.kind ∷ [])
+    /// Serves an item, where these areas were declared, and writes its lines.
+    fn answer<K: Sink>(&mut self, item: Item, areas: &Areas, out: &mut K) -> Result<(), Failed>
+        requires { areas_after item areas.now ≡ areas.now }
+        ensures { HasServed K.sink true (item ∷ [])
             (scene_of (rows self.old) areas.now) (scene_of (rows self.new) areas.now)
             out.old out.new (is_ok result) };
 

@@ -1,7 +1,7 @@
 use Rattle.xl_curving.proofs.Common.{◌++◌, ◌+◌, ◌<◌, ◌∙◌, ◌∷◌, ◌≡◌, ◌≤◌, ◌⊎◌, [], ap, append-nil, append_assoc, arith, Bool, curve_lines, drop, false, HitCurve, IfSome, inl, inr, length, List, nat_tests, refl, Served, sink_cut, sink_then, SinkAfter, SinkMeaning, slice_get, slice_index_or, Some, subst, suc, sym, take, true, zero, ℕ}
 use Rattle.xl_curve_model.specs.CurveLines.{line_of}
 use Rattle.xl_model.specs.Rows.{Row, row_of}
-use Rattle.xl_rack.proofs.PlaceLemmas.{some-of}
+use Rattle.xl_rack.proofs.RowsLemmas.{some-of}
 use Rattle.xl_curving.proofs.curving.write_curves.Goals as goal
 
 -- The lines of curves, one after another.

@@ -1,5 +1,6 @@
 use Rattle.xl_rack.proofs.Common.{◌∙◌}
-use Rattle.xl_rack.proofs.BatchLemmas.{access-alone, access-demands, framed-alone}
+use Rattle.xl_rack.proofs.AnswerLemmas.{access-alone, access-demands}
+use Rattle.xl_rack.proofs.BatchLemmas.{framed-alone}
 use Rattle.xl_rack.proofs.batch.serve_one.Goals as goal
 
 pub returns-then-access_at_once : goal.returns-then-access_at_once

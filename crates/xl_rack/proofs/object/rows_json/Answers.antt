@@ -3,8 +3,7 @@ use Rattle.serde_json.specs.Data.{Data}
 use Rattle.serde_json.specs.Written.{items_have_float}
 use Rattle.serde_json.specs.declared.value.Value.{Value}
 use Rattle.xl_report.proofs.JsonLemmas.{pushed, rows-plain}
-use Rattle.xl_rack.proofs.PlaceLemmas.{some-of}
-use Rattle.xl_rack.proofs.RowsLemmas.{take_next, the-row}
+use Rattle.xl_rack.proofs.RowsLemmas.{some-of, take_next, the-row}
 use Rattle.xl_rack.proofs.object.rows_json.Goals as goal
 
 -- The objects of the rows, one after another.
