@@ -136,7 +136,8 @@ fn answer_reference<S: Structure, K: Sink>(
     }
 }
 
-/// Serves an item that declares no area, where these areas were declared.
+/// Serves an item, where these areas were declared, and writes its lines. One that declares an area
+/// has none, and changes no row.
 #[inline(always)]
 pub(crate) fn answer_item<S: Structure, K: Sink>(
     machine: &mut Machine<S>,
@@ -160,7 +161,7 @@ pub(crate) fn answer_item<S: Structure, K: Sink>(
     }
 }
 
-/// Serves an item that declares no area to the machine of a slot, and writes its lines.
+/// Serves an item to the machine of a slot, and writes its lines.
 #[inline(always)]
 fn answer_slot<K: Sink>(
     slot: &mut Slot,
@@ -176,8 +177,7 @@ fn answer_slot<K: Sink>(
     at_table!(slot, machine => answer_item(machine, item, areas, out))
 }
 
-/// Serves an item that declares no area to each slot, and writes their lines: whole to the first,
-/// then to the next.
+/// Serves an item to each slot, and writes its lines: whole to the first, then to the next.
 pub(crate) fn answer_slots<K: Sink>(
     slots: &mut [Slot],
     item: &Item,

@@ -90,8 +90,8 @@ impl Rack {
         self.slots.len()
     }
 
-    /// Serves an item that declares no area by each machine in turn, and writes their lines. Where a
-    /// put fails, the item is not served by all.
+    /// Serves an item by each machine in turn, and writes its lines. One that declares an area has
+    /// none, and changes no row. Where a put fails, the machines behind don't serve it.
     pub fn answer<K: Sink>(&mut self, item: Item, areas: &Areas, out: &mut K) -> Result<(), Failed>
         ensures rows { EqualWhere (is_ok result) self.new (rows_after item areas.now self.old) }
         ensures lines { SinkAfter K.sink (rows_lines item areas.now self.old)
