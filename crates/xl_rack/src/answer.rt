@@ -184,7 +184,8 @@ pub(crate) fn answer_slots<K: Sink>(
     areas: &Areas,
     out: &mut K,
 ) -> Result<(), Failed>
-    ensures { EachAnswered K.sink item.now areas.now slots.old slots.new out.old out.new (is_ok result) }
+    ensures { EachAnswered K.sink item.now areas.now slots.old slots.new out.old out.new
+        (is_ok result) }
 {
     let Some((first, rest)) = slots.split_first_mut() else {
         return Ok(());
