@@ -1,5 +1,5 @@
 -- Items that a row is served with their lines: an event, and an access with the events of its demand.
-use Rattle.xl_rack.proofs.Common.{◌++◌, ◌∙◌, ◌∷◌, ◌≡◌, [], access_line, access_served, accessed, accessed_by, after_event, after_of, All-cons, answer_line, ap, append-nil, Area, area_for, area_wanted, arith, Bool, Command, Declared, demand_after, demand_lines, demanded, done, EachAnswered, EqualWhere, Event, event_line, false, HasAnswered, is_canonical, IsNamed, Item, item_lines, Kind, List, looked, looked_by, looked_where, map, map_of, None, Option, outcome_of, page_of, Referenced, referenced, refl, Reply, reply_to, Row, row_of, rows_after, rows_lines, RowState, second_line, Served, served_after, served_of, sink_cut, sink_same, sink_then, SinkAfter, SinkMeaning, Slot, slot_form, Some, state_after, subst, suc, sym, true, walk_filled, walk_made, wanted, ℕ}
+use Rattle.xl_rack.proofs.Common.{◌++◌, ◌∙◌, ◌∷◌, ◌≡◌, [], access_line, access_served, accessed, accessed_by, after_event, after_of, All-cons, answer_line, ap, append-nil, Area, area_for, area_wanted, arith, Bool, Command, Declared, demand_after, demand_lines, demanded, designs, done, EachAnswered, EqualWhere, Event, event_line, false, HasAnswered, is_canonical, IsNamed, Item, item_lines, Kind, List, looked, looked_by, looked_where, map, map_of, None, Option, outcome_of, page_of, Referenced, referenced, refl, Reply, reply_to, Row, row_of, rows_after, rows_lines, RowState, second_line, Served, served_after, served_of, sink_cut, sink_same, sink_then, SinkAfter, SinkMeaning, Slot, slot_form, Some, state_after, subst, suc, sym, true, walk_filled, walk_made, wanted, ℕ}
 use Rattle.xl_model.specs.Mapping.{leaf_at_page}
 use Rattle.xl_model.specs.Rules.{rule}
 use Rattle.xl_model.specs.Tally.{count_look}
@@ -220,6 +220,7 @@ module _ {K : Type 0} (sink : SinkMeaning K) (item : Item) (areas : List Area) w
       → EachAnswered sink item areas ss ts b c whole → EachAnswered sink item areas slots (t ∷ ts) a c whole
   answered-then slots s t ss ts a b c whole are form first next = rw are (record {
     rows_are = rows-then whole (served_of t) (served_after item areas (served_of s)) (map served_of ts) (rows_after item areas (map served_of ss)) first.row_is next.rows_are;
+    stay = ap (λ (r : Row). r ∷ designs (map served_of ts)) first.row_stays ∙ ap (λ (rs : List Row). (served_of s).row ∷ rs) next.stay;
     named = λ all. All-cons IsNamed t ts (named-row s t first.row_stays form (all 0 s (omega arith))) (next.named (λ k d less. all (suc k) d (omega arith)));
     writes = sink_then sink (item_lines item areas (served_of s).row (served_of s).state) (rows_lines item areas (map served_of ss)) a b c whole first.writes next.writes;
   })
@@ -229,6 +230,7 @@ module _ {K : Type 0} (sink : SinkMeaning K) (item : Item) (areas : List Area) w
       → EachAnswered sink item areas slots (t ∷ ss) a b false
   answered-cut slots s t ss a b are form first = rw are (record {
     rows_are = tt;
+    stay = ap (λ (r : Row). r ∷ designs (map served_of ss)) first.row_stays;
     named = λ all. All-cons IsNamed t ss (named-row s t first.row_stays form (all 0 s (omega arith))) (λ k d less. all (suc k) d (omega arith));
     writes = sink_cut sink (item_lines item areas (served_of s).row (served_of s).state) (rows_lines item areas (map served_of ss)) a b first.writes;
   })

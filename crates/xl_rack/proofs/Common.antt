@@ -32,7 +32,7 @@ pub use Rattle.xl_report.specs.Json.{row_object, row_objects}
 pub use Rattle.xl_serving.specs.Serving.{HasServed, scene_of, SceneAfter}
 pub use Rattle.xl_tagged.specs.Forms.{One, Sixteen}
 pub use Rattle.xl_tagged.specs.Slots.{chained}
-pub use Rattle.xl_rack.specs.Answers.{EachAnswered, EqualWhere, HasAnswered}
+pub use Rattle.xl_rack.specs.Answers.{designs, EachAnswered, EqualWhere, HasAnswered}
 pub use Rattle.xl_rack.specs.Batches.{access_served, batch_served, demand_after, demand_served, row_served}
 pub use Rattle.xl_rack.specs.Beside.{curve_after_part, curve_served, each_curve, row_after}
 pub use Rattle.xl_rack.specs.Forms.{form_named, IsCuckoo}

@@ -7,7 +7,7 @@ ghost use Rattle.xl_model.specs.Rows.{row_of, IsRow};
 ghost use Rattle.xl_model.specs.Scenes.{opened, rows_after, rows_lines};
 ghost use Rattle.xl_outside.specs.Sinks.{SinkAfter};
 ghost use Rattle.xl_serving.specs.Batches.{gaps};
-ghost use Rattle.xl_rack.specs.Answers.{EqualWhere};
+ghost use Rattle.xl_rack.specs.Answers.{EqualWhere, designs};
 ghost use Rattle.xl_rack.specs.Forms.{form_named};
 ghost use Rattle.xl_rack.specs.Batches.{row_served, batch_served};
 ghost use Rattle.xl_rack.specs.Beside.{curve_served, curve_stepped, each_curve};
@@ -91,9 +91,10 @@ impl Rack {
     }
 
     /// Serves an item by each machine in turn, and writes its lines. One that declares an area has
-    /// none, and changes no row. Where a put fails, the machines behind don't serve it.
+    /// none, and changes no row. Where a put fails, nothing is said of the states: the designs stay.
     pub fn answer<K: Sink>(&mut self, item: Item, areas: &Areas, out: &mut K) -> Result<(), Failed>
         ensures rows { EqualWhere (is_ok result) self.new (rows_after item areas.now self.old) }
+        ensures stay { designs self.new ≡ designs self.old }
         ensures lines { SinkAfter K.sink (rows_lines item areas.now self.old)
             out.old out.new (is_ok result) }
     {
