@@ -157,7 +157,10 @@ impl<const W: usize> Array<W> {
             return None;
         }
         let set = self.spec.set_of(page, order);
-        self.touch_in(set, Lookup::of(space, page, order), order)
+        let Some(item) = self.sets.touch_near(set, tag_of(space, page, order)) else {
+            return None;
+        };
+        Some(item.word)
     }
 
     /// Looks for the page in the orders that the array takes, from 4 KiB up. Moves the leaf found

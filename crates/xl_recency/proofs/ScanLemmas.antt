@@ -1,5 +1,5 @@
 -- A scan that stops at the first item that passes a test, against `find`, `touched` and `purged`.
-use Rattle.xl_recency.proofs.Common.{◌+◌, ◌<◌, ◌∙◌, ◌∷◌, ◌≡◌, ◌≤◌, [], AllFail, ap, arith, Bool, cases_lt, FailBefore, false, find, get_or, get_or-take, get_or_read, inl, inr, IsFirst, IsTest, length, length-take-le, List, None, refl, remove, Some, subst, suc, sym, take, touched, true, without_first, zero, ℕ}
+use Rattle.xl_recency.proofs.Common.{◌+◌, ◌<◌, ◌∙◌, ◌∷◌, ◌≡◌, ◌≤◌, [], AllFail, ap, arith, Bool, cases_lt, FailBefore, false, find, get_or, get_or-take, get_or_read, inl, inr, IsFirst, IsTest, length, length-take-le, List, None, refl, remove, Some, subst, suc, sym, take, touched, Touches, true, without_first, zero, ℕ}
 
 module _ {A : Type 0} (q : A → Bool) where
   pub find_at : (xs : List A) (at : ℕ) (d : A) → at < length xs → ((k : ℕ) → k < at → q (get_or xs k d) ≡ false) → q (get_or xs at d) ≡ true
@@ -29,6 +29,21 @@ module _ {A : Type 0} (q : A → Bool) where
   without_none (x ∷ xs) b =
       let e : q x ≡ false = b 0 x (omega arith) in
       rw e (ap (λ (ys : List A). x ∷ ys) (without_none xs (λ k d s. b (suc k) d (omega arith))))
+
+  -- the first of two items that passes, in front of the others; `place` has where it is, by whether it is the first one
+  pub near : (place : Bool → ℕ) (b : Bool) (xs ys : List A) (len : ℕ) (d : A) → place true ≡ 0 → place false ≡ 1 → q (get_or xs 0 d) ≡ b → place b < len → len ≤ length xs
+      → q (get_or xs (place b) d) ≡ true → ys ≡ get_or xs (place b) d ∷ remove xs (place b) → Touches q (take len xs) (take len ys) (Some (get_or xs (place b) d))
+  near place b xs ys zero d z o e l fits m is = absurd (omega arith)
+  near place b [] ys (suc n) d z o e l fits m is = absurd (omega arith)
+  near place true (x ∷ xs) ys (suc n) d z o e l fits m is =
+      let first : q x ≡ true = e in
+      rw (is, z) (record { found = rw first refl; moved = rw first refl })
+  near place false (x ∷ xs) ys (suc zero) d z o e l fits m is = absurd (omega (arith, l, o))
+  near place false (x ∷ []) ys (suc (suc n)) d z o e l fits m is = absurd (omega (arith, fits))
+  near place false (x ∷ y ∷ xs) ys (suc (suc n)) d z o e l fits m is =
+      let first : q x ≡ false = e in
+      let second : q y ≡ true = rw o at m in
+      rw (is, o) (record { found = rw (first, second) refl; moved = rw (first, second) refl })
 
 -- the first item in front of the others
 first_back : {A : Type 0} (xs : List A) (x : A) → 0 < length xs → x ≡ get_or xs 0 x → xs ≡ x ∷ remove xs 0

@@ -5,6 +5,9 @@ ghost use Rattle.std.specs.List.{remove};
 ghost use Rattle.std.specs.Fn.{FnReturnsAt};
 ghost use Rattle.xl_model.specs.Recency.{purged};
 ghost use Rattle.xl_recency.specs.Lists.{IsTest, IsFirst, AllFail, FailBefore, Touches, Fills};
+ghost use Rattle.xl_recency.specs.Marks.{has_tag};
+
+use crate::item::Item;
 
 /// Puts the item in front, in place of the one at `at`. From the last place on: so no item is
 /// carried, and LLVM makes one move of the loop: where the place is known when the program is
@@ -282,6 +285,42 @@ pub(crate) fn touch_slots<const W: usize, T: Copy, P: Fn(&T) -> bool>(
     }
     let place = place_of(slots, len, test);
     touch_at(&mut slots[..len], place, test)
+}
+
+/// Puts one of the first two items in front, by the same loads and stores whichever it is.
+#[inline(always)]
+fn put_of_two_in_front<T: Copy>(items: &mut [T], at: usize, newest: T)
+    requires pair { at < 2 }
+    requires two { 2 ≤ length items.old }
+    ensures { items.new ≡ newest ∷ remove items.old at }
+{
+    items[1] = items[1 - at];
+    items[0] = newest;
+}
+
+/// Moves the first of the first `len` items with the tag to the front, where mostly that is one of
+/// the two newest. Which of them can't be predicted, so there is no branch between these two.
+#[inline(always)]
+pub(crate) fn touch_near<const W: usize>(
+    slots: &mut [Item; W],
+    len: usize,
+    tag: u64,
+) -> Option<Item>
+    requires { len ≤ W }
+    ensures { Touches (has_tag tag) (take len slots.old) (take len slots.new) result }
+{
+    if W >= 2 {
+        let at = (slots[0].tag != tag) as usize;
+        let item = slots[at];
+        if item.tag == tag {
+            if len <= at {
+                return None;
+            }
+            put_of_two_in_front(slots, at, item);
+            return Some(item);
+        }
+    }
+    touch_slots(slots, len, &|item: &Item| item.tag == tag)
 }
 
 /// The first item that passes the test, where its place is known.

@@ -72,6 +72,22 @@ impl<const W: usize> Sets<W> {
         list.touch(tag)
     }
 
+    /// Does what `touch` does, where mostly one of the two newest items has the tag. In sets of at
+    /// most 32 there is no branch between these two.
+    #[inline(always)]
+    pub fn touch_near(&mut self, set: usize, tag: u64) -> Option<Item>
+        requires width { W ≤ 64 }
+        requires set { set < length self.old }
+        ensures { TouchesIn (has_tag tag) set self.old self.new result }
+    {
+        if W <= 32 {
+            let list = &mut self.few[set];
+            return list.touch_near(tag);
+        }
+        let list = &mut self.many[set];
+        list.touch(tag)
+    }
+
     /// The newest item of the set with the tag.
     pub fn find(&self, set: usize, tag: u64) -> Option<Item>
         requires width { W ≤ 64 }

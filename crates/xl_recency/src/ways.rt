@@ -3,8 +3,10 @@
 ghost use Rattle.std.specs.Prelude.{◌≡◌, ◌+◌, ◌<◌, ◌≤◌, [], length, find, IsOk, IfOk};
 ghost use Rattle.std.specs.Fn.{FnReturnsAt};
 ghost use Rattle.xl_recency.specs.Lists.{IsTest, Touches, Fills, Purges};
+ghost use Rattle.xl_recency.specs.Marks.{has_tag};
 
-use crate::kernel::{fill_slots, item_at, keep_failing, place_of, touch_slots};
+use crate::item::Item;
+use crate::kernel::{fill_slots, item_at, keep_failing, place_of, touch_near, touch_slots};
 use std::alloc::Global;
 use std::marker::Model;
 use xl_model::NoMemory;
@@ -99,5 +101,16 @@ impl<T: Copy, const W: usize> Ways<T, W> {
         let before = self.len;
         self.len = keep_failing(&mut self.slots[..before], test);
         (before - self.len) as u64
+    }
+}
+
+impl<const W: usize> Ways<Item, W> {
+    /// Moves the newest item with the tag to the front, and returns it, where mostly that is one of
+    /// the two newest of all. `None` where none has it; then nothing changes.
+    #[inline(always)]
+    pub(crate) fn touch_near(&mut self, tag: u64) -> Option<Item>
+        ensures { Touches (has_tag tag) self.old self.new result }
+    {
+        touch_near(&mut self.slots, self.len, tag)
     }
 }

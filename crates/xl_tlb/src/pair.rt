@@ -1,5 +1,5 @@
 //! A look and a fill of two common arrays, a first one and a second one of a higher level, and the
-//! two steps of a look.
+//! steps of a look.
 
 ghost use Rattle.std.specs.Prelude.{◌≡◌, ◌<◌, length, Bool, true, false, None};
 ghost use Rattle.std.specs.Borrow.{sem, Array, LendsBoth};
@@ -42,8 +42,8 @@ pub(crate) fn first_and_rest<T>(items: &mut [T]) -> (&mut T, &mut [T])
 /// Looks for the leaf of 4 KiB that is sought in the second array, where the first one misses its
 /// page, which is filled then. Unknown where a larger leaf may answer; then nothing changes.
 #[inline(always)]
-fn look_second(first: &mut AnyArray, set: usize, second: &mut AnyArray, lookup: Lookup) -> Seen
-    requires at { IsAt order_of.K4 set lookup first.old.spec }
+fn look_second(first: &mut AnyArray, second: &mut AnyArray, lookup: Lookup) -> Seen
+    requires lookup { IsLookup order_of.K4 lookup }
     requires lacks { LacksSmall lookup.space lookup.page first.old }
     requires missed { None ≡ array_hit first.old lookup.space lookup.page }
     requires first { IsOfPair first.old.spec }
@@ -57,12 +57,14 @@ fn look_second(first: &mut AnyArray, set: usize, second: &mut AnyArray, lookup: 
         }
         return Seen::Nowhere;
     };
+    let set = first.common_set_of(lookup);
     first.fill_common(set, lookup, word);
     Seen::Second { word }
 }
 
-/// One of the two steps of a look. Each is a type, so that what is compiled in line for one has no
-/// code of the other: a function that grows very large is not in line.
+/// A step of a look. Each is a type, so that what is compiled in line for one has no code of the
+/// others: a function that grows very large is not in line, and one that makes no call saves no
+/// registers.
 pub(crate) trait Step {
     /// Whether the first array is known to lack the leaf of 4 KiB that is sought.
     ghost lacks: { Bool };
@@ -87,9 +89,13 @@ pub(crate) trait Step {
 /// Looks for the leaf of 4 KiB that is sought in the first array.
 pub(crate) struct FirstStep;
 
+/// Looks for the leaf of 4 KiB that is sought in the second array, with which the first is filled.
+/// Unknown where the first may hold larger leaves.
+pub(crate) struct NextStep;
+
 /// Looks for a larger leaf of the page in the first array, which lacks that of 4 KiB, and then for
 /// that of 4 KiB in the second one, with which the first is filled.
-pub(crate) struct NextStep;
+pub(crate) struct LargeStep;
 
 impl Step for FirstStep {
     ghost lacks = { false };
@@ -119,13 +125,27 @@ impl Step for NextStep {
 
     #[inline(always)]
     fn look_pair(first: &mut AnyArray, second: &mut AnyArray, lookup: Lookup) -> Seen {
-        let set = first.common_set_of(lookup);
         if first.has_large() {
-            if let Some(word) = first.touch_large(true, lookup.space, lookup.page) {
-                return Seen::Large { word };
-            }
+            return Seen::Unknown;
         }
-        look_second(first, set, second, lookup)
+        look_second(first, second, lookup)
+    }
+
+    #[inline(always)]
+    fn look_alone(_first: &mut AnyArray, _lookup: Lookup) -> Answered {
+        Answered::Unknown
+    }
+}
+
+impl Step for LargeStep {
+    ghost lacks = { true };
+
+    #[inline(always)]
+    fn look_pair(first: &mut AnyArray, second: &mut AnyArray, lookup: Lookup) -> Seen {
+        if let Some(word) = first.touch_large(true, lookup.space, lookup.page) {
+            return Seen::Large { word };
+        }
+        look_second(first, second, lookup)
     }
 
     #[inline(always)]

@@ -15,7 +15,7 @@ ghost use Rattle.xl_tlb.specs.Tlbs.{spec_of, tlb_filled};
 
 use crate::levels::{Answered, Levels};
 use crate::newest::MruPages;
-use crate::pair::{FirstStep, NextStep, Step};
+use crate::pair::{FirstStep, LargeStep, NextStep, Step};
 use xl_array::Lookup;
 use xl_model::{Kind, Order};
 
@@ -142,6 +142,31 @@ fn search_above<S: Shape>(
 {
     let lookup = Lookup { space, page, tag };
     match look_once::<S, NextStep>(shape, known, kind, lookup) {
+        Answered::Word { word } => Some(word),
+        Answered::Large { word } => Some(word),
+        Answered::Nowhere => None,
+        Answered::Unknown => search_large(shape, known, kind, space, page, tag),
+    }
+}
+
+/// Like `search_above`, where the first array may hold larger leaves.
+#[inline(never)]
+fn search_large<S: Shape>(
+    shape: &mut S,
+    known: &mut Known,
+    kind: Kind,
+    space: u16,
+    page: u64,
+    tag: u64,
+) -> Option<u64>
+    requires key { IsKey tag space page }
+    requires fits { S.fits shape.old known.old.pages known.old.levels.arrays }
+    requires lacks { FirstLacks space page (alone_at (S.first kind) known.old.levels.arrays) }
+    ensures looked { IsLooked kind space page result known.old.levels known.new.levels }
+    ensures fits { S.fits shape.new known.new.pages known.new.levels.arrays }
+{
+    let lookup = Lookup { space, page, tag };
+    match look_once::<S, LargeStep>(shape, known, kind, lookup) {
         Answered::Word { word } => Some(word),
         Answered::Large { word } => Some(word),
         Answered::Nowhere => None,
