@@ -16,6 +16,8 @@ use xl_model::NoMemory;
 pub struct Ways<T, const W: usize> {
     /// Stands in front, so that it shares a line with the newest items.
     len: usize,
+    /// Unused: behind it items of 16 bytes lie at multiples of 16, and none in two lines.
+    _spare: u64,
     slots: [T; W],
 }
 
@@ -38,6 +40,7 @@ impl<T: Copy, const W: usize> Ways<T, W> {
     {
         Ok(Ways {
             len: 0,
+            _spare: 0,
             slots: [blank; W],
         })
     }
