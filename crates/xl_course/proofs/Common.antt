@@ -13,8 +13,6 @@ pub use Rattle.xl_outside.specs.Sinks.{FlushAfter, IsFlushed, IsMore, Outside, P
 pub use Rattle.xl_course.specs.Accounts.{Account, account, end_flushed, EndAfter, Ends, EndsAs, EndsWith, fault_message, FlushesEnd, last_where, message_by, message_of, text_of}
 pub use Rattle.xl_course.specs.Courses.{accesses_items, at_last, before, commands_of, Course, course, course_by, ended, finish, items_of, items_of_all, ran, ran_all}
 pub use Rattle.xl_course.specs.Meanings.{joined, lines_where, Meaning, printed_by, printings, states_after}
-pub use Rattle.xl_course.specs.Serving.{HasServed, Reached, Serves, ServesNext, ServesPart, ServesRecord, Skimmed, StateAfter}
-pub use Rattle.xl_course.specs.Sources.{found_of, Gives}
-pub use Rattle.xl_course.specs.Stops.{is_all_put, status_by, StopsServing, StopsSource}
-pub use Rattle.xl_course.specs.declared.source.Numbered.{Numbered}
+pub use Rattle.xl_course.specs.Serving.{EqualWhere, HasServed, Reached, Serves, ServesNext, ServesPart, ServesRecord, Skimmed}
+pub use Rattle.xl_course.specs.Stops.{is_all_put, status_by, StopsServing}
 pub use Rattle.xl_course.specs.declared.stop.Stop.{Stop}

@@ -8,14 +8,14 @@ use Rattle.xl_course.specs.Meanings.{Meaning, states_after, printed_by}
 use Rattle.xl_course.specs.Courses.{Course, before, ended, items_of, items_of_all}
 use Rattle.xl_course.specs.Sources.{EndsBy}
 
--- The state is that after the items; where a put failed, nothing is said of it.
-abbrev pub StateAfter : {C I S : Type 0} → Meaning C I S → Bool → List I → S → S → Type 0
-StateAfter m true items s t = t ≡ states_after m items s
-StateAfter m false items s t = Unit {0}
+-- The two are equal where all was served; where a put failed, nothing is said of them.
+abbrev pub EqualWhere : {A : Type 0} → Bool → A → A → Type 0
+EqualWhere true a b = a ≡ b
+EqualWhere false a b = Unit {0}
 
 -- These items were served, and their lines were written: whole, or up to a put that failed.
 pub record HasServed {K C I S : Type 0} (m : Meaning C I S) (sink : SinkMeaning K) (answers : Bool) (items : List I) (p q : S) (k l : K) (whole : Bool) : Type 0 where
-  pub state_is : StateAfter m whole items p q
+  pub state_is : EqualWhere whole q (states_after m items p)
   pub writes : SinkAfter sink (printed_by m answers items p) k l whole
 
 -- Of this course some items were served with their lines written, and that course is left.

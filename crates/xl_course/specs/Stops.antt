@@ -1,5 +1,5 @@
 -- Why a run stops, and the status that it has then.
-use Rattle.std.specs.Prelude.{ℕ, Bool, true, false, Option, None, Some, Result, Ok, Err}
+use Rattle.std.specs.Prelude.{Bool, true, false, Option, None, Some, Result, Ok, Err}
 use Rattle.xl_model.specs.declared.fault.InputFault.{InputFault}
 use Rattle.xl_model.specs.declared.fault.InputFault.TheVariants as fault
 use Rattle.xl_outside.specs.declared.folder.Unread.{Unread}

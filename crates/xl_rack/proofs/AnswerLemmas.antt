@@ -1,14 +1,15 @@
 -- Items that a row is served with their lines: an event, and an access with the events of its demand.
-use Rattle.xl_rack.proofs.Common.{◌++◌, ◌∙◌, ◌∷◌, ◌≡◌, [], access_line, access_served, accessed, accessed_by, after_event, after_of, All-cons, answer_line, ap, append-nil, Area, area_for, area_wanted, arith, Bool, Command, Declared, demand_after, demand_lines, demanded, designs, done, EachAnswered, EqualWhere, Event, event_line, false, HasAnswered, is_canonical, IsNamed, Item, item_lines, Kind, List, looked, looked_by, looked_where, map, map_of, None, Option, outcome_of, page_of, Referenced, referenced, refl, Reply, reply_to, Row, row_of, rows_after, rows_lines, RowState, second_line, Served, served_after, served_of, sink_cut, sink_same, sink_then, SinkAfter, SinkMeaning, Slot, slot_form, Some, state_after, subst, suc, sym, true, walk_filled, walk_made, wanted, ℕ}
+use Rattle.xl_rack.proofs.Common.{◌++◌, ◌∙◌, ◌∷◌, ◌≡◌, [], access_line, access_served, accessed, accessed_by, after_event, after_of, again_where, All-cons, answer_line, ap, append-nil, Area, area_for, area_wanted, arith, Bool, Command, Declared, demand_after, demand_lines, demanded, done, EqualWhere, Event, event_line, false, is_canonical, IsNamed, Item, item_lines, Kind, List, looked, looked_by, looked_where, map, map_of, None, Option, outcome_of, page_of, Referenced, referenced, refl, reply_to, Row, row_of, rows_after, rows_lines, RowState, second_line, Served, served_after, served_of, sink_cut, sink_same, sink_then, SinkAfter, SinkMeaning, Slot, slot_form, Some, state_after, subst, suc, sym, true, walk_filled, walk_made, wanted, ℕ}
 use Rattle.xl_model.specs.Mapping.{leaf_at_page}
 use Rattle.xl_model.specs.Rules.{rule}
 use Rattle.xl_model.specs.Tally.{count_look}
 use Rattle.xl_model.specs.Tlb.{Answer, answer_of}
 use Rattle.xl_model.specs.declared.event.Outcome.{Outcome}
 use Rattle.xl_model.specs.declared.leaf.Leaf.{Leaf}
+use Rattle.xl_model.specs.declared.leaf.Reply.{Reply}
 use Rattle.xl_model.specs.declared.row.Row.{Row as RowFields}
 use Rattle.xl_rack.proofs.SlotLemmas.{named-row}
-use Rattle.xl_model.specs.Items.{again_where}
+use Rattle.xl_rack.specs.Answers.{designs, EachAnswered, HasAnswered}
 use Rattle.xl_model.specs.declared.event.Event.TheVariants as event
 use Rattle.xl_model.specs.declared.event.Outcome.TheVariants as outcome
 use Rattle.xl_model.specs.declared.leaf.Reply.TheVariants as reply

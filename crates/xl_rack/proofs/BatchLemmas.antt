@@ -1,7 +1,8 @@
 -- Accesses that are served by one row after another.
-use Rattle.xl_rack.proofs.Common.{◌++◌, ◌∙◌, ◌∷◌, ◌≡◌, [], Access, access_served, after_of, All, All-append, All-cons, All-drop, All-take, ap, Area, arith, batch_served, Command, drop, EachServed, Event, IsFramed, IsNamed, Kind, List, map, map-append, map-id, refl, reply_to, row_served, rows_after, scene_after, scene_of, scenes_after, Served, served_of, Slot, slot_form, state_after, subst, suc, sym, take, take-append-drop, ℕ}
+use Rattle.xl_rack.proofs.Common.{◌++◌, ◌∙◌, ◌∷◌, ◌≡◌, [], Access, access_served, after_of, All-append, All-cons, All-drop, All-take, ap, Area, arith, batch_served, Command, drop, EachServed, Event, IsFramed, IsNamed, Kind, List, map, map-append, map-id, refl, reply_to, row_served, rows_after, scene_after, scene_of, scenes_after, Served, served_of, Slot, slot_form, state_after, subst, suc, sym, take, take-append-drop, ℕ}
 use Rattle.std.proofs.Math.Path.{fun_ext}
 use Rattle.std.proofs.lemmas.Simd.{map-map}
+use Rattle.std.specs.List.{All}
 use Rattle.xl_model_lemmas.proofs.SceneLemmas.{scene-append}
 use Rattle.xl_serving.specs.Batches.{item_of, items_batched}
 use Rattle.xl_serving.specs.declared.batch.BatchedEvent.{BatchedEvent}

@@ -1,5 +1,7 @@
 -- Row after row.
-use Rattle.xl_rack.proofs.Common.{◌++◌, ◌+◌, ◌<◌, ◌∙◌, ◌∷◌, ◌≡◌, [], ap, append-nil, append_assoc, Area, areas_after, arith, Bool, Counts, drop, EqualWhere, false, HasServed, IfSome, Item, length, List, None, Option, refl, Row, row_line, row_lines, rows_after, rows_lines, scene_after, scene_of, SceneAfter, Served, sink_cut, sink_then, SinkAfter, SinkMeaning, slice_get, Some, subst, suc, sym, take, take-append-drop, true, zero, ℕ}
+use Rattle.xl_rack.proofs.Common.{◌++◌, ◌+◌, ◌<◌, ◌∙◌, ◌∷◌, ◌≡◌, [], ap, append-nil, append_assoc, Area, areas_after, arith, Bool, Counts, drop, EqualWhere, false, HasServed, IfSome, Item, length, List, None, Option, refl, Row, row_line, row_lines, rows_after, rows_lines, scene_after, scene_of, Served, sink_cut, sink_then, SinkAfter, SinkMeaning, slice_get, Some, subst, suc, sym, take, take-append-drop, true, zero, ℕ}
+use Rattle.xl_course.specs.Meanings.{states_after}
+use Rattle.xl_serving.specs.Plain.{plain}
 
 -- what is said of the value, if there is one
 pub some-of : {A : Type 0} (o : Option A) (P : A → Type 0) (v : A) → IfSome o P → o ≡ Some v → P v
@@ -32,7 +34,7 @@ row-lines-next rows i v h =
     ∙ ap (λ (t : List ℕ). row_lines (take i rows) ++ t) (append-nil (row_line v.row.name v.state.counts))
 
 scene-item : (whole : Bool) (item : Item) (areas : List Area) (p q : List Served) → EqualWhere whole q (rows_after item areas p) → areas_after item areas ≡ areas
-    → SceneAfter whole (item ∷ []) (scene_of p areas) (scene_of q areas)
+    → EqualWhere whole (scene_of q areas) (states_after plain (item ∷ []) (scene_of p areas))
 unfolding scene_after
 scene-item true item areas p q is same = rw (is, same) refl
 scene-item false item areas p q is same = tt
@@ -40,8 +42,11 @@ scene-item false item areas p q is same = tt
 module _ {K : Type 0} (sink : SinkMeaning K) where
   -- an item that all rows were served
   pub item-served : (item : Item) (areas : List Area) (p q : List Served) (k l : K) (whole : Bool) → areas_after item areas ≡ areas → EqualWhere whole q (rows_after item areas p)
-      → SinkAfter sink (rows_lines item areas p) k l whole → HasServed sink true (item ∷ []) (scene_of p areas) (scene_of q areas) k l whole
-  item-served item areas p q k l whole same is lines = record { scene_is = scene-item whole item areas p q is same; writes = lines }
+      → SinkAfter sink (rows_lines item areas p) k l whole → HasServed plain sink true (item ∷ []) (scene_of p areas) (scene_of q areas) k l whole
+  item-served item areas p q k l whole same is lines = record {
+    state_is = scene-item whole item areas p q is same;
+    writes = subst (λ (t : List ℕ). SinkAfter sink t k l whole) (sym (append-nil (rows_lines item areas p))) lines;
+  }
 
   -- the lines of the rows, one after another
   pub row-written : (rows : List Served) (i : ℕ) (row : Row) (counts : Counts) (k l m : K) (whole : Bool) → i < length rows

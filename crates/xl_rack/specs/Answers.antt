@@ -1,18 +1,14 @@
 -- Rows that are served with their lines.
-use Rattle.std.specs.Prelude.{◌≡◌, ℕ, Bool, true, false, List, map}
+use Rattle.std.specs.Prelude.{◌≡◌, ℕ, Bool, List, map}
 use Rattle.std.specs.List.{All}
 use Rattle.xl_model.specs.declared.script.Area.{Area}
 use Rattle.xl_model.specs.declared.script.Item.{Item}
 use Rattle.xl_model.specs.Rows.{Row}
 use Rattle.xl_model.specs.Scenes.{Served, rows_after, rows_lines}
 use Rattle.xl_outside.specs.Sinks.{SinkMeaning, SinkAfter}
+use Rattle.xl_course.specs.Serving.{EqualWhere}
 use Rattle.xl_rack.specs.declared.slot.Slot.{Slot}
 use Rattle.xl_rack.specs.Slots.{served_of, IsNamed}
-
--- The second is the first where all was served; where a put failed, nothing is said of it.
-abbrev pub EqualWhere : {A : Type 0} → Bool → A → A → Type 0
-EqualWhere true a b = a ≡ b
-EqualWhere false a b = Unit {0}
 
 -- The designs of rows.
 abbrev pub designs : List Served → List Row

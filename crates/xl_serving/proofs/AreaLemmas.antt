@@ -1,5 +1,5 @@
 -- Areas that a script declares.
-use Rattle.xl_serving.proofs.Common.{◌++◌, ◌∷◌, ◌≡◌, [], ap, Area, Bool, Command, Declared, false, HasServed, is_area, item_lines, List, scenes_printed as printed_by, refl, rows_after, rows_lines, scene_after, scene_of, scenes_after, Served, sink_same, SinkAfter, SinkMeaning, state_after, subst, sym, true, ℕ}
+use Rattle.xl_serving.proofs.Common.{◌++◌, ◌∙◌, ◌∷◌, ◌≡◌, [], ap, Area, Bool, Command, Declared, false, HasServed, is_area, item_lines, List, plain, printed_by, refl, rows_after, rows_lines, Scene, scene_after, scene_of, Served, sink_same, SinkAfter, SinkMeaning, state_after, subst, sym, true, with_area, ℕ}
 use Rattle.xl_model.specs.declared.script.Command.TheVariants as command
 
 declared_rows : (area : Area) (areas : List Area) (rows : List Served) → rows_after (Declared area) areas rows ≡ rows
@@ -12,20 +12,19 @@ unfolding item_lines
 declared_lines area areas [] = refl
 declared_lines area areas (r ∷ rows) = declared_lines area areas rows
 
-declared_printed : (answers : Bool) (area : Area) (areas : List Area) (rows : List Served) → printed_by answers (Declared area ∷ []) (scene_of rows areas) ≡ []
-declared_printed true area areas rows = declared_lines area areas rows
-declared_printed false area areas rows = refl
+declared_printed : (answers : Bool) (area : Area) (s : Scene) → printed_by plain answers (Declared area ∷ []) s ≡ []
+declared_printed true area s = ap (λ (text : List ℕ). text ++ []) (declared_lines area s.areas s.rows)
+declared_printed false area s = refl
 
-declared_scene : (area : Area) (areas : List Area) (rows : List Served) → scene_of rows (areas ++ area ∷ []) ≡ scenes_after (Declared area ∷ []) (scene_of rows areas)
+declared_scene : (area : Area) (s : Scene) → with_area area s ≡ scene_after (Declared area) s
 unfolding scene_after
-declared_scene area areas rows = ap (λ (z : List Served). scene_of z (areas ++ area ∷ [])) (sym (declared_rows area areas rows))
+declared_scene area s = ap (λ (rows : List Served). scene_of rows (s.areas ++ area ∷ [])) (sym (declared_rows area s.areas s.rows))
 
 -- an area is declared: no line is written, and all rows stay
-pub served_area : {K : Type 0} (sink : SinkMeaning K) (answers : Bool) (area : Area) (areas : List Area) (rows : List Served) (k : K)
-    → HasServed sink answers (Declared area ∷ []) (scene_of rows areas) (scene_of rows (areas ++ area ∷ [])) k k true
-served_area sink answers area areas rows k = record {
-  scene_is = declared_scene area areas rows;
-  writes = subst (λ (text : List ℕ). SinkAfter sink text k k true) (sym (declared_printed answers area areas rows)) (sink_same sink k);
+pub declared : {K : Type 0} (sink : SinkMeaning K) (answers : Bool) (area : Area) (p q : Scene) (k : K) → q ≡ with_area area p → HasServed plain sink answers (Declared area ∷ []) p q k k true
+declared sink answers area p q k e = record {
+  state_is = e ∙ declared_scene area p;
+  writes = subst (λ (text : List ℕ). SinkAfter sink text k k true) (sym (declared_printed answers area p)) (sink_same sink k);
 }
 
 -- a command that isn't a demand declares no area

@@ -11,8 +11,10 @@ pub use Rattle.xl_course.proofs.KnownLemmas.{is_err_by, known_all, known_one, kn
 pub use Rattle.xl_course.specs.Accounts.{Account, account, EndAfter, Ends, EndsAs, faulted, last_where}
 pub use Rattle.xl_course.specs.Courses.{commands_of, course, items_of_all, items_of as record_items}
 pub use Rattle.xl_course.specs.Meanings.{lines_where, printed_by, states_after}
+pub use Rattle.xl_course.specs.Serving.{HasServed, Skimmed}
 pub use Rattle.xl_course.specs.Sources.{accesses_of_all, EndsBy, Skims}
 pub use Rattle.xl_course.specs.declared.stop.Stop.{Stop}
+pub use Rattle.xl_lackey.specs.Answers.{Gives, record_of}
 pub use Rattle.xl_lackey.specs.Skims.{accesses_in, all_accesses, pair, Takes as TakesLines, with_records}
 pub use Rattle.xl_lackey.specs.Stream.{due, Left, left, left_by, MayCome, Record, records, State, unless_bad}
 pub use Rattle.xl_lackey.specs.declared.skim.Access.{Access}
@@ -41,7 +43,7 @@ pub use Rattle.xl_words.specs.Words.{AskedPlain, plain_of}
 pub use Rattle.xl_serving.specs.Batches.{Backlog, BatchesMore, deferred, drained, gaps, item_of, items_batched, items_of_all as scene_items}
 pub use Rattle.xl_serving.specs.Inputs.{commands_said, config_fault, Finds, rows_in, rows_said, said_by, said_in, script_fault, trail_for}
 pub use Rattle.xl_serving.specs.Plain.{account_by, account_from, AreOpened, end_text, items_of, plain, plain_account, plain_rows, plain_start, rows_by, rows_from, rows_text, Start, start_of, step_of, steps_of, with_area}
-pub use Rattle.xl_serving.specs.Serving.{count_of, event_at, HasServed, scene_of}
+pub use Rattle.xl_serving.specs.Serving.{count_of, event_at, scene_of}
 pub use Rattle.xl_serving.specs.Tapes.{Feeds, FeedsOf, Fills, HasMore, IsFedFrom, IsUnfed, IsWithin, KeepsLeft, size_of, to_come}
-pub use Rattle.xl_serving.specs.Traces.{accesses_of, ahead, at_first, fault_of, left_of, limit, made_left, MadeProgress, next_number, numbered, Progress, trail, trail_of}
+pub use Rattle.xl_serving.specs.Traces.{accesses_of, ahead, at_first, fault_of, left_of, limit, made_left, MadeProgress, next_number, numbered, Progress, trail, trail_of, with_record}
 pub use Rattle.xl_serving.specs.declared.batch.BatchedEvent.{BatchedEvent}

@@ -1,11 +1,8 @@
 -- The plain form: scenes and lines, as any form's.
-use Rattle.xl_serving.proofs.Common.{◌++◌, ◌+◌, ◌<◌, ◌∙◌, ◌∷◌, ◌≡◌, ◌≤◌, ◌⊎◌, [], Accesses, account, account_from, All, All-cons, All-head, All-nil, All-same, All-tail, ap, Area, arith, AskedPlain, Backlog, BatchesMore, Bool, Command, commands_of, cond, count_by, count_of, course, deferred, drained, end_text, Ends, event_at, events_from, false, HasServed, inl, inr, is_area, IsPlaced, Item, items_of, items_of_all, Kind, length, length-append, lines_where, List, Option, plain, printed-append, printed_by, record_items, refl, Result, Served as Row, rows_from, Scene, accesses_items as scene_accesses, scene_after, scene_items, scene_of, scenes_after, scenes_printed, SinkAfter, SinkMeaning, slice_get, Some, start_of, states_after, step_of, steps_of, Stop, subst, suc, sum_by-cons, sym, Trail, true, with_area, zero, ℕ}
-use Rattle.xl_course.specs.Serving.{HasServed as Served, Skimmed}
+use Rattle.xl_serving.proofs.Common.{◌++◌, ◌+◌, ◌<◌, ◌∙◌, ◌∷◌, ◌≡◌, ◌≤◌, ◌⊎◌, [], Accesses, account, account_from, All, All-cons, All-head, All-nil, All-same, All-tail, ap, Area, arith, AskedPlain, Backlog, BatchesMore, Bool, Command, commands_of, cond, count_by, count_of, course, deferred, drained, end_text, Ends, event_at, events_from, false, inl, inr, is_area, IsPlaced, Item, items_of, items_of_all, Kind, length, length-append, lines_where, List, Option, plain, printed-append, printed_by, record_items, refl, Result, Served as Row, rows_from, Scene, accesses_items as scene_accesses, scene_after, scene_items, scene_of, scenes_after, scenes_printed, Skimmed, slice_get, Some, start_of, states_after, step_of, steps_of, Stop, subst, suc, sum_by-cons, Trail, true, zero, ℕ}
 use Rattle.xl_course.specs.declared.form.Step.{Step}
-use Rattle.xl_serving.proofs.AreaLemmas.{served_area}
 use Rattle.xl_course.specs.declared.form.Step.TheVariants as step
 use Rattle.xl_model.specs.declared.script.Command.TheVariants as command
-use Rattle.xl_model.specs.declared.script.Item.TheVariants as item
 
 pub scenes-states : (items : List Item) (s : Scene) → scenes_after items s ≡ states_after plain items s
 scenes-states [] s = refl
@@ -21,18 +18,6 @@ printed-plain answers (i ∷ items) s =
     printed-append answers (i ∷ []) items s
     ∙ ap (λ (t : List ℕ). t ++ scenes_printed answers items (scene_after i s)) (line-one answers i s)
     ∙ ap (λ (t : List ℕ). lines_where plain answers i s ++ t) (printed-plain answers items (scene_after i s))
-
--- what rows were served, the plain form was
-pub served-plain : {K : Type 0} (sink : SinkMeaning K) (answers : Bool) (items : List Item) (p q : Scene) (k l : K) (whole : Bool)
-    → HasServed sink answers items p q k l whole → Served plain sink answers items p q k l whole
-served-plain sink answers items p q k l true x = record {
-  state_is = x.scene_is ∙ scenes-states items p;
-  writes = subst (λ (t : List ℕ). SinkAfter sink t k l true) (printed-plain answers items p) x.writes;
-}
-served-plain sink answers items p q k l false x = record {
-  state_is = tt;
-  writes = subst (λ (t : List ℕ). SinkAfter sink t k l false) (printed-plain answers items p) x.writes;
-}
 
 same-accesses : (number : ℕ) (xs : List (ℕ × Kind)) → scene_accesses number xs ≡ record_items plain (record { number = number; accesses = xs })
 same-accesses number [] = refl
@@ -85,13 +70,6 @@ events-items (command.Fence scope) h = refl
 events-items (command.Demand area) h = absurd (let e : true ≡ false = h in cc)
 events-items (command.Run n) h = refl
 events-items command.RunRest h = refl
-
--- an area was declared
-pub declared : {K : Type 0} (sink : SinkMeaning K) (answers : Bool) (area : Area) (p q : Scene) (k : K)
-    → q ≡ with_area area p → Served plain sink answers (item.Declared area ∷ []) p q k k true
-declared sink answers area p q k e =
-    subst (λ (s : Scene). Served plain sink answers (item.Declared area ∷ []) p s k k true) (sym e)
-    (served-plain sink answers (item.Declared area ∷ []) p (with_area area p) k k true (served_area sink answers area p.areas p.rows k))
 
 -- what may still be served, after an area
 pub can-area : (area : Area) (rest : List Command) (areas more : List Area) → more ≡ areas ++ area ∷ []

@@ -1,8 +1,6 @@
 -- What the reader's answer says of the records that are left.
-use Rattle.xl_serving.proofs.Common.{◌%◌, ◌++◌, ◌+◌, ◌<◌, ◌^◌, ◌∙◌, ◌∷◌, ◌≡◌, ◌≤◌, [], Accesses, accesses_of, ahead, ap, arith, Bool, cases_lt, drop, drop_all, due, false, false_from_ne_true, fault_of, inl, InputFault, inr, IsFedFrom, IsUnfed, IsWithin, KeepsLeft, Left, left, left_by, left_of, length, limit, List, MayCome, next_number, None, numbered, Option, Progress, Record, refl, Some, State, sym, take, TraceTooLong, Trail, trail, true, with_records, ℕ}
-use Rattle.xl_lackey.specs.Answers.{Gives}
+use Rattle.xl_serving.proofs.Common.{◌%◌, ◌++◌, ◌+◌, ◌<◌, ◌^◌, ◌∙◌, ◌∷◌, ◌≡◌, ◌≤◌, [], Accesses, accesses_of, ahead, ap, arith, Bool, cases_lt, drop, drop_all, due, false, false_from_ne_true, fault_of, Gives, inl, InputFault, inr, IsFedFrom, IsUnfed, IsWithin, KeepsLeft, Left, left, left_by, left_of, length, limit, List, MayCome, next_number, None, numbered, Option, Progress, Record, refl, Some, State, sym, take, TraceTooLong, Trail, trail, true, with_record, with_records, ℕ}
 use Rattle.xl_serving.proofs.PieceLemmas.{long, short}
-use Rattle.xl_serving.specs.Traces.{with_record}
 
 -- a file past the limit isn't at its end
 unfinished : (file : List ℕ) (p : Progress) → IsWithin file p → limit < length file → p.reader.finished ≡ false

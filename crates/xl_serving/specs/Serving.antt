@@ -1,28 +1,16 @@
--- Rows and the sink after serving, and the events of a command.
-use Rattle.std.specs.Prelude.{◌≡◌, ℕ, Bool, true, false, List}
+-- The scene of some rows, and the events of a command.
+use Rattle.std.specs.Prelude.{ℕ, List}
 use Rattle.xl_model.specs.declared.event.Event.{Event}
 use Rattle.xl_model.specs.declared.event.Event.TheVariants as event
 use Rattle.xl_model.specs.declared.script.Command.{Command}
 use Rattle.xl_model.specs.declared.script.Command.TheVariants as command
-use Rattle.xl_model.specs.declared.script.Item.{Item}
 use Rattle.xl_model.specs.declared.script.Area.{Area}
-use Rattle.xl_model.specs.Scenes.{Served, Scene, scenes_after, printed_by}
+use Rattle.xl_model.specs.Scenes.{Served, Scene}
 use Rattle.xl_model.specs.Courses.{block_address}
-use Rattle.xl_outside.specs.Sinks.{SinkMeaning, SinkAfter}
 
 -- These rows, where these areas were declared.
 abbrev pub scene_of : List Served → List Area → Scene
 scene_of rows areas = record { rows = rows; areas = areas }
-
--- The scene is that after the items; where a put failed, nothing is said of it.
-abbrev pub SceneAfter : Bool → List Item → Scene → Scene → Type 0
-SceneAfter true items s t = t ≡ scenes_after items s
-SceneAfter false items s t = Unit {0}
-
--- These items were served, and their lines were written: whole, or up to a put that failed.
-pub record HasServed {K : Type 0} (sink : SinkMeaning K) (answers : Bool) (items : List Item) (p q : Scene) (k l : K) (whole : Bool) : Type 0 where
-  pub scene_is : SceneAfter whole items p q
-  pub writes : SinkAfter sink (printed_by answers items p) k l whole
 
 -- How many events a command is.
 abbrev pub count_of : Command → ℕ

@@ -7,7 +7,9 @@ ghost use Rattle.xl_model.specs.Scenes.{Served, opened, scenes_after};
 ghost use Rattle.xl_model.specs.Report.{row_lines, images_lines};
 ghost use Rattle.xl_outside.specs.Sinks.{SinkAfter};
 ghost use Rattle.xl_report.specs.Json.{row_objects, objects_text};
-ghost use Rattle.xl_serving.specs.Serving.{HasServed, scene_of};
+ghost use Rattle.xl_course.specs.Serving.{HasServed};
+ghost use Rattle.xl_serving.specs.Plain.{plain};
+ghost use Rattle.xl_serving.specs.Serving.{scene_of};
 ghost use Rattle.xl_serving.specs.Batches.{gaps, items_batched};
 
 use crate::batch::BatchedEvent;
@@ -33,7 +35,7 @@ pub trait Rows: Sized {
     /// Serves an item, where these areas were declared, and writes its lines.
     fn answer<K: Sink>(&mut self, item: Item, areas: &Areas, out: &mut K) -> Result<(), Failed>
         requires { areas_after item areas.now ≡ areas.now }
-        ensures { HasServed K.sink true (item ∷ [])
+        ensures { HasServed plain K.sink true (item ∷ [])
             (scene_of (rows self.old) areas.now) (scene_of (rows self.new) areas.now)
             out.old out.new (is_ok result) };
 

@@ -1,5 +1,4 @@
-use Rattle.xl_serving.proofs.Common.{◌≡◌, count_of, drained, event_at, events_from, plain, scene_of, take, true}
-use Rattle.xl_course.specs.Serving.{HasServed}
+use Rattle.xl_serving.proofs.Common.{◌≡◌, count_of, drained, event_at, events_from, HasServed, plain, scene_of, take, true}
 use Rattle.xl_serving.proofs.plain.Bench.events.Given as goal
 
 abbrev pub invariant-loop-i : goal.invariant-loop-i

@@ -1,5 +1,5 @@
-use Rattle.xl_serving.proofs.AreaLemmas.{no_area}
-use Rattle.xl_serving.proofs.PlainLemmas.{can-area, can-events, declared, events-items, placed, room}
+use Rattle.xl_serving.proofs.AreaLemmas.{declared, no_area}
+use Rattle.xl_serving.proofs.PlainLemmas.{can-area, can-events, events-items, placed, room}
 use Rattle.xl_serving.proofs.plain.BenchForm.command.Goals as goal
 
 pub declare-requires : goal.declare-requires

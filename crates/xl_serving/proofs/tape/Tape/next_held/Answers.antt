@@ -1,5 +1,4 @@
-use Rattle.xl_serving.proofs.Common.{IsFedFrom, refl, rules, subst, sym}
-use Rattle.xl_lackey.specs.Answers.{record_of}
+use Rattle.xl_serving.proofs.Common.{IsFedFrom, record_of, refl, rules, subst, sym}
 use Rattle.xl_serving.proofs.RecordLemmas.{gives_record}
 use Rattle.xl_serving.proofs.tape.Tape.next_held.Goals as goal
 
