@@ -129,10 +129,11 @@ impl Split {
             → IfSome result (λ word. IsFront lookup.space lookup.page word
             (alone_at (first_of_kind kind) arrays)) }
     {
-        match kind {
-            Kind::Fetch => self.of_fetches.word(lookup),
-            Kind::Load | Kind::Store => self.of_data.word(lookup),
-        }
+        let pages = match kind {
+            Kind::Fetch => &self.of_fetches,
+            Kind::Load | Kind::Store => &self.of_data,
+        };
+        pages.word(lookup)
     }
 
     /// Looks for the page whose leaf of 4 KiB is sought, and gives its word, as `look` of `Tlb`
