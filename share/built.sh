@@ -96,7 +96,7 @@ make_unproved() {
     need_kit xlate
     lock
     if is_fresh; then return; fi
-    echo "xlate: a program is made first, which takes two to five minutes; it is NOT proved (./prove proves it)" >&2
+    echo "xlate: a program is made first, which takes one to five minutes; it is NOT proved (./prove proves it)" >&2
     begin
     if ! "$top/tools/speed/unproved" "$top/out/made" 9>&- < /dev/null >&2; then
         echo "xlate: the program could not be made" >&2
