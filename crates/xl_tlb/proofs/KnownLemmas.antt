@@ -1,5 +1,5 @@
 -- What is known of pages after one was kept or forgotten.
-use Rattle.xl_tlb.proofs.Common.{◌%◌, ◌*◌, ◌+◌, ◌<◌, ◌==◌, ◌∙◌, ◌∷◌, ◌≡◌, ◌≢◌, [], ap, arith, Bool, false, FrontsStay, get_or, get_or-set_other, IsFront, IsKey, Knows, length, List, Lookup, MruPages, nat_tests, no_key, refl, set, subst, suc, TlbArray, true, zero, ℕ}
+use Rattle.xl_tlb.proofs.Common.{◌%◌, ◌*◌, ◌+◌, ◌<◌, ◌==◌, ◌∙◌, ◌∷◌, ◌≡◌, ◌≢◌, [], ap, arith, Bool, false, FrontsStay, get_or, get_or-set_other, IsFront, IsKey, Knows, length, List, Lookup, MruPages, nat_tests, no_key, page_place, refl, replicate, set, StaysKnown, subst, suc, TlbArray, true, zero, ℕ}
 use Rattle.xl_array.specs.Coding.{tag_of}
 use Rattle.xl_array.specs.Lookup.{IsLookup}
 use Rattle.xl_model.specs.declared.address.Order.TheVariants as order
@@ -23,16 +23,10 @@ one_page key space page other of_other one two =
 pub lookup_key : (s : Lookup) → IsLookup order.K4 s → IsKey s.tag s.space s.page
 lookup_key s is = record { space_in = is.space_in; page_in = is.page_in; is_tag = is.tagged }
 
-pub all_none : (k : ℕ) → get_or (no_key ∷ no_key ∷ no_key ∷ no_key ∷ no_key ∷ no_key ∷ no_key ∷ no_key ∷ []) k no_key ≡ no_key
-all_none zero = refl
-all_none (suc zero) = refl
-all_none (suc (suc zero)) = refl
-all_none (suc (suc (suc zero))) = refl
-all_none (suc (suc (suc (suc zero)))) = refl
-all_none (suc (suc (suc (suc (suc zero))))) = refl
-all_none (suc (suc (suc (suc (suc (suc zero)))))) = refl
-all_none (suc (suc (suc (suc (suc (suc (suc zero))))))) = refl
-all_none (suc (suc (suc (suc (suc (suc (suc (suc k)))))))) = refl
+pub none_of : (n k : ℕ) → get_or (replicate n no_key) k no_key ≡ no_key
+none_of zero k = refl
+none_of (suc n) zero = refl
+none_of (suc n) (suc k) = none_of n k
 
 none_there : (xs : List ℕ) (k : ℕ) → get_or (set xs k no_key) k no_key ≡ no_key
 none_there [] zero = refl
@@ -45,34 +39,63 @@ value_there [] k n d l = absurd (omega arith)
 value_there (x ∷ xs) zero n d l = refl
 value_there (x ∷ xs) (suc k) n d l = value_there xs k n d (omega arith)
 
+-- eight places are those of each first array
+same_place : (first page other : ℕ) → page % 8 ≡ other % 8 → page_place first page ≡ page_place first other
+same_place first page other e = omega (arith, e)
+
+other_place : (first page other : ℕ) → page % 8 ≢ other % 8 → page_place first page ≢ page_place first other
+other_place first page other d e = d (omega (arith, e))
+
+other_first : (first page of_other other : ℕ) → (of_other ≡ first → ⊥) → page_place of_other other ≢ page_place first page
+other_first first page of_other other d e = d (omega (arith, e))
+
 -- with the key and the word of a page at its place, that page and those elsewhere are known
-pub kept_one : (n : MruPages) (s : Lookup) (word : ℕ) (arrays : List TlbArray) → IsLookup order.K4 s → length n.keys ≡ 8 → length n.words ≡ 8 → Knows n arrays → IsFront s.space s.page word arrays
-    → Knows (record n { keys = set n.keys (s.page % 8) s.tag; words = set n.words (s.page % 8) word }) arrays
-kept_one n s word arrays is keys words known front space page key = go (page % 8 == s.page % 8) refl
-  where
-    go : (b : Bool) → (page % 8 == s.page % 8) ≡ b → IsFront space page (get_or (set n.words (s.page % 8) word) (page % 8) 0) arrays
-    go true t =
-        let e : page % 8 ≡ s.page % 8 = grind (arith, nat_tests) in
-        let k : get_or (set n.keys (s.page % 8) s.tag) (page % 8) no_key ≡ s.tag = rw e (value_there n.keys (s.page % 8) s.tag no_key (omega arith)) in
-        let one = one_page s.tag s.space s.page space page (lookup_key s is) (subst (λ (z : ℕ). IsKey z space page) k key) in
-        let w : get_or (set n.words (s.page % 8) word) (page % 8) 0 ≡ word = rw e (value_there n.words (s.page % 8) word 0 (omega arith)) in
-        rw (w, ← one.0, ← one.1) front
-    go false t =
-        let d : page % 8 ≢ s.page % 8 = λ e. absurd (grind (arith, nat_tests)) in
-        let k : get_or (set n.keys (s.page % 8) s.tag) (page % 8) no_key ≡ get_or n.keys (page % 8) no_key = get_or-set_other n.keys (s.page % 8) (page % 8) s.tag no_key d in
-        let w : get_or (set n.words (s.page % 8) word) (page % 8) 0 ≡ get_or n.words (page % 8) 0 = get_or-set_other n.words (s.page % 8) (page % 8) word 0 d in
-        rw w (known space page (subst (λ (z : ℕ). IsKey z space page) k key))
+module _ (first : ℕ) (n : MruPages) (s : Lookup) (word : ℕ) where
+  abbrev kept : MruPages
+  kept = record n { keys = set n.keys (page_place first s.page) s.tag; words = set n.words (page_place first s.page) word }
+
+  pub kept_one : (arrays : List TlbArray) → first < 2 → IsLookup order.K4 s → length n.keys ≡ 16 → length n.words ≡ 16 → Knows first n arrays → IsFront s.space s.page word arrays → Knows first kept arrays
+  kept_one arrays few is keys words known front space page key = go (page % 8 == s.page % 8) refl
+    where
+      go : (b : Bool) → (page % 8 == s.page % 8) ≡ b → IsFront space page (get_or (set n.words (page_place first s.page) word) (page_place first page) 0) arrays
+      go true t =
+          let e : page_place first page ≡ page_place first s.page = same_place first page s.page (grind (arith, nat_tests)) in
+          let k : get_or (set n.keys (page_place first s.page) s.tag) (page_place first page) no_key ≡ s.tag = rw e (value_there n.keys (page_place first s.page) s.tag no_key (omega arith)) in
+          let one = one_page s.tag s.space s.page space page (lookup_key s is) (subst (λ (z : ℕ). IsKey z space page) k key) in
+          let w : get_or (set n.words (page_place first s.page) word) (page_place first page) 0 ≡ word = rw e (value_there n.words (page_place first s.page) word 0 (omega arith)) in
+          rw (w, ← one.0, ← one.1) front
+      go false t =
+          let d = other_place first page s.page (λ e. absurd (grind (arith, nat_tests))) in
+          let k : get_or (set n.keys (page_place first s.page) s.tag) (page_place first page) no_key ≡ get_or n.keys (page_place first page) no_key = get_or-set_other n.keys (page_place first s.page) (page_place first page) s.tag no_key d in
+          let w : get_or (set n.words (page_place first s.page) word) (page_place first page) 0 ≡ get_or n.words (page_place first page) 0 = get_or-set_other n.words (page_place first s.page) (page_place first page) word 0 d in
+          rw w (known space page (subst (λ (z : ℕ). IsKey z space page) k key))
+
+  pub kept_others : StaysKnown first n kept
+  kept_others other arrays apart known space page key =
+      let d = other_first first s.page other page apart in
+      let k : get_or (set n.keys (page_place first s.page) s.tag) (page_place other page) no_key ≡ get_or n.keys (page_place other page) no_key = get_or-set_other n.keys (page_place first s.page) (page_place other page) s.tag no_key d in
+      let w : get_or (set n.words (page_place first s.page) word) (page_place other page) 0 ≡ get_or n.words (page_place other page) 0 = get_or-set_other n.words (page_place first s.page) (page_place other page) word 0 d in
+      rw w (known space page (subst (λ (z : ℕ). IsKey z space page) k key))
 
 -- without the key at one place, what stays in front elsewhere is known
-pub forgot_one : (n new : MruPages) (place : ℕ) (old arrays : List TlbArray) → new.keys ≡ set n.keys place no_key → new.words ≡ n.words → Knows n old → FrontsStay place old arrays → Knows new arrays
-forgot_one n new place old arrays keys words known stay space page key = go (page % 8 == place) refl
-  where
-    go : (b : Bool) → (page % 8 == place) ≡ b → IsFront space page (get_or new.words (page % 8) 0) arrays
-    go true t =
-        let e : page % 8 ≡ place = grind (arith, nat_tests) in
-        let k : get_or new.keys (page % 8) no_key ≡ no_key = ap (λ (z : List ℕ). get_or z (page % 8) no_key) keys ∙ ap (λ (z : ℕ). get_or (set n.keys place no_key) z no_key) e ∙ none_there n.keys place in
-        absurd (not_a_key space page (subst (λ (z : ℕ). IsKey z space page) k key))
-    go false t =
-        let d : page % 8 ≢ place = λ e. absurd (grind (arith, nat_tests)) in
-        let k : get_or new.keys (page % 8) no_key ≡ get_or n.keys (page % 8) no_key = ap (λ (z : List ℕ). get_or z (page % 8) no_key) keys ∙ get_or-set_other n.keys place (page % 8) no_key no_key d in
-        rw words (stay space page (get_or n.words (page % 8) 0) d (known space page (subst (λ (z : ℕ). IsKey z space page) k key)))
+module _ (first : ℕ) (n new : MruPages) (block : ℕ) (keys : new.keys ≡ set n.keys (page_place first block) no_key) (words : new.words ≡ n.words) where
+  pub forgot_one : (old arrays : List TlbArray) → Knows first n old → FrontsStay (block % 8) old arrays → Knows first new arrays
+  forgot_one old arrays known stay space page key = go (page % 8 == block % 8) refl
+    where
+      go : (b : Bool) → (page % 8 == block % 8) ≡ b → IsFront space page (get_or new.words (page_place first page) 0) arrays
+      go true t =
+          let e : page_place first page ≡ page_place first block = same_place first page block (grind (arith, nat_tests)) in
+          let k : get_or new.keys (page_place first page) no_key ≡ no_key =
+          ap (λ (z : List ℕ). get_or z (page_place first page) no_key) keys ∙ ap (λ (z : ℕ). get_or (set n.keys (page_place first block) no_key) z no_key) e ∙ none_there n.keys (page_place first block) in
+          absurd (not_a_key space page (subst (λ (z : ℕ). IsKey z space page) k key))
+      go false t =
+          let d : page % 8 ≢ block % 8 = λ e. absurd (grind (arith, nat_tests)) in
+          let k : get_or new.keys (page_place first page) no_key ≡ get_or n.keys (page_place first page) no_key =
+          ap (λ (z : List ℕ). get_or z (page_place first page) no_key) keys ∙ get_or-set_other n.keys (page_place first block) (page_place first page) no_key no_key (other_place first page block d) in
+          rw words (stay space page (get_or n.words (page_place first page) 0) d (known space page (subst (λ (z : ℕ). IsKey z space page) k key)))
+
+  pub forgot_others : StaysKnown first n new
+  forgot_others other arrays apart known space page key =
+      let k : get_or new.keys (page_place other page) no_key ≡ get_or n.keys (page_place other page) no_key =
+      ap (λ (z : List ℕ). get_or z (page_place other page) no_key) keys ∙ get_or-set_other n.keys (page_place first block) (page_place other page) no_key no_key (other_first first block other page apart) in
+      rw words (known space page (subst (λ (z : ℕ). IsKey z space page) k key))

@@ -1,5 +1,5 @@
 -- Three arrays, one for fetches, one for data, and one for both: a look in the two of a kind, as a look at all.
-use Rattle.xl_tlb.proofs.Common.{◌++◌, ◌<◌, ◌^◌, ◌∙◌, ◌∷◌, ◌≡◌, ◌≤◌, ◌⊎◌, [], alone_at, answered_as, ap, AreSplit, AreThree, arith, array_filled, array_found, array_hit, AtFetch, AtKind, AtLoad, AtStore, false, first_of_kind, FirstLacks, FitsSplit, front_touch, get_or, HasEights, hit_front, inl, inr, IsFill, IsFront, IsFrontHit, IsKept, IsKnownAnswer, IsKnownWord, IsOfPair, IsPageTouch, IsPairFill, IsPairLook, IsRising, IsTlb, IsTouch, IsWord, Kind, Knows, LacksSmall, length, List, Lookup, map, MruPages, None, one_more_at, plus, refl, Replied, Seen, seen_in, Serves, serves_as, serves_kind, set, set_number, small_leaf, Some, spec_of, subst, sym, tlb_of, TlbArray, true, ℕ}
+use Rattle.xl_tlb.proofs.Common.{◌++◌, ◌<◌, ◌^◌, ◌∙◌, ◌∷◌, ◌≡◌, ◌≤◌, [], alone_at, answered_as, ap, AreSplit, AreThree, arith, array_filled, array_found, array_hit, AtFetch, AtKind, AtLoad, AtStore, false, first_of_kind, FirstLacks, front_touch, get_or, HasEights, hit_front, IsFill, IsFront, IsFrontHit, IsKept, IsKnownAnswer, IsKnownWord, IsOfPair, IsPageTouch, IsPairFill, IsPairLook, IsRising, IsTlb, IsTouch, IsWord, Kind, LacksSmall, length, List, Lookup, map, None, one_more_at, plus, refl, Replied, Seen, seen_in, Serves, serves_as, serves_kind, set, set_number, small_leaf, Some, spec_of, subst, sym, tlb_of, TlbArray, true, ℕ}
 use Rattle.xl_tlb.proofs.StayLemmas.{fill_others, kept_at, OtherSets, touch_others}
 use Rattle.xl_tlb.proofs.StepLemmas.{above_beyond, filled_past, filled_replied, IsLookAt, IsSeen, IsUnder, large_word, last_filled, look_hit, look_next, look_none, look_passed, other_beyond, pair_specs, seen_hit, seen_none, seen_passed, seen_word, two_first, two_nowhere, two_second}
 use Rattle.xl_tlb.proofs.TlbLemmas.{filled_first, kept_state, serves_all}
@@ -251,24 +251,6 @@ pub split_front : (k : Kind) (space page word : ℕ) (arrays : List TlbArray) (h
 split_front k space page word arrays hits misses fills few fewer small split rising front =
     split_answer (seen.First word) k space page arrays arrays hits misses fills few fewer small split rising (front_look space page word k arrays split front)
 
--- what is known stays so
-module _ (of_fetches of_data pages : MruPages) (old new : List TlbArray) (is : FitsSplit of_fetches of_data pages old) (specs : map spec_of new ≡ map spec_of old) where
-  pub fetch_known : (space page word : ℕ) (known : MruPages) → IsKept first_of_kind kind.Fetch space page word old new → Knows known (alone_at 0 new) → FitsSplit known of_data pages new
-  fetch_known space page word known kept knows = record {
-    split = rw specs is.split;
-    none = is.none;
-    fetches = knows;
-    loads = rw (kept.others kind.Load (λ e. absurd (omega (arith, e)))) is.loads;
-  }
-
-  pub data_known : (k : Kind) (space page word : ℕ) (known : MruPages) → first_of_kind k ≡ 1 → IsKept first_of_kind k space page word old new → Knows known (alone_at 1 new) → FitsSplit of_fetches known pages new
-  data_known k space page word known one kept knows = record {
-    split = rw specs is.split;
-    none = is.none;
-    fetches = rw (kept.others kind.Fetch (λ e. absurd (omega (arith, e, one)))) is.fetches;
-    loads = knows;
-  }
-
 split_eights : (arrays : List TlbArray) → AreSplit (map spec_of arrays) → HasEights (alone_at 0 arrays) × HasEights (alone_at 1 arrays)
 split_eights [] split = absurd split
 split_eights (f ∷ []) split = absurd split
@@ -316,10 +298,6 @@ split_pair kind.Load arrays (f ∷ d ∷ []) s [] a e two at split =
 split_pair kind.Store arrays (f ∷ d ∷ []) s [] a e two at split =
     let is : AreThree f.spec d.spec s.spec = rw e at split in
     (subst (λ (z : TlbArray). IsOfPair z.spec) (sym at) is.other.pair, is.second)
-
-pub data_number : (k : Kind) → (k ≡ kind.Load) ⊎ (k ≡ kind.Store) → first_of_kind k ≡ 1
-data_number k (inl e) = rw e refl
-data_number k (inr e) = rw e refl
 
 -- a look leaves the specs
 split_specs : (saw : Seen) (k : Kind) (space page : ℕ) (arrays new : List TlbArray) → AtKind (IsPairLook space page saw) k arrays new → map spec_of new ≡ map spec_of arrays

@@ -1,15 +1,22 @@
 -- The shape of a row's arrays.
-use Rattle.std.specs.Prelude.{List, []}
+use Rattle.std.specs.Prelude.{Bool, true, false, List, []}
 use Rattle.xl_model.specs.Tlb.{TlbArray}
-use Rattle.xl_tlb.specs.declared.newest.MruPages.{MruPages}
+use Rattle.xl_tlb.specs.declared.known.KnownPages.{KnownPages}
 use Rattle.xl_tlb.specs.declared.shapes.AnyShape.{AnyShape}
 use Rattle.xl_tlb.specs.declared.shapes.AnyShape.TheVariants as shape
-use Rattle.xl_tlb.specs.Known.{Knows}
-use Rattle.xl_tlb.specs.Shapes.{FitsJoint, FitsOne, FitsSplit}
+use Rattle.xl_tlb.specs.Firsts.{Fits, IsKnown}
+use Rattle.xl_tlb.specs.Shapes.{AreJoint, AreSplit, IsOne}
 
 -- The arrays are of this shape, and what is known of them is so.
-abbrev pub fits_in : AnyShape → MruPages → List TlbArray → Type 0
-fits_in (shape.Joint j) pages arrays = FitsJoint pages arrays
-fits_in (shape.Split s) pages arrays = FitsSplit s.of_fetches s.of_data pages arrays
-fits_in (shape.One o) pages arrays = FitsOne o.eights pages arrays
-fits_in shape.InTurn pages arrays = Knows pages []
+abbrev pub fits_in : AnyShape → KnownPages → List TlbArray → Type 0
+fits_in shape.Joint p arrays = Fits false AreJoint p arrays
+fits_in shape.Split p arrays = Fits true AreSplit p arrays
+fits_in shape.One p arrays = Fits false IsOne p arrays
+fits_in shape.InTurn p arrays = IsKnown false p []
+
+-- Whether fetches and data have a first array each.
+abbrev pub split_of : AnyShape → Bool
+split_of shape.Joint = false
+split_of shape.Split = true
+split_of shape.One = false
+split_of shape.InTurn = false

@@ -1,5 +1,5 @@
 -- Pages that the newest leaves of the first array answer.
-use Rattle.std.specs.Prelude.{ℕ, ◌≡◌, ◌<◌, ◌%◌, ◌^◌, List, slice_index_or}
+use Rattle.std.specs.Prelude.{ℕ, ◌≡◌, ◌<◌, ◌%◌, ◌^◌, ◌*◌, ◌+◌, List, slice_index_or}
 use Rattle.xl_model.specs.Tlb.{TlbArray}
 use Rattle.xl_model.specs.declared.address.Order.TheVariants as order
 use Rattle.xl_array.specs.Coding.{tag_of}
@@ -16,7 +16,14 @@ pub record IsKey (key space page : ℕ) : Type 0 where
   pub page_in : page < 2 ^ 52
   pub is_tag : key ≡ tag_of space page order.K4
 
--- A page's slot is its last three bits. Each page whose key is there hits the leaf with the word
--- beside the key, and that is the newest of its set.
-abbrev pub Knows : MruPages → List TlbArray → Type 0
-Knows n arrays = (space page : ℕ) → IsKey (slice_index_or n.keys (page % 8) no_key) space page → IsFront space page (slice_index_or n.words (page % 8) 0) arrays
+-- The place of a page of the first array with this number: eight of each, by the page's last three bits.
+abbrev pub page_place : ℕ → ℕ → ℕ
+page_place first page = first * 8 + page % 8
+
+-- Each page whose key is at its place hits the leaf of the first array with the word beside the key, and that is the newest of its set.
+abbrev pub Knows : ℕ → MruPages → List TlbArray → Type 0
+Knows first n arrays = (space page : ℕ) → IsKey (slice_index_or n.keys (page_place first page) no_key) space page → IsFront space page (slice_index_or n.words (page_place first page) 0) arrays
+
+-- What is known of other first arrays stays so.
+abbrev pub StaysKnown : ℕ → MruPages → MruPages → Type 0
+StaysKnown first n new = (other : ℕ) (arrays : List TlbArray) → (other ≡ first → ⊥) → Knows other n arrays → Knows other new arrays

@@ -1,5 +1,5 @@
 -- The shapes that a row's arrays have, and what is known of them.
-use Rattle.std.specs.Prelude.{ℕ, zero, suc, ◌≡◌, ◌<◌, ◌%◌, Bool, true, List, [], ◌∷◌, map, None, Some}
+use Rattle.std.specs.Prelude.{ℕ, ◌≡◌, ◌<◌, ◌%◌, true, List, [], ◌∷◌, None, Some}
 use Rattle.xl_model.specs.declared.address.Kind.{Kind}
 use Rattle.xl_model.specs.declared.address.Kind.TheVariants as kind
 use Rattle.xl_model.specs.declared.address.Order.TheVariants as order
@@ -11,13 +11,12 @@ use Rattle.xl_tlb.specs.declared.levels.Answered.{Answered}
 use Rattle.xl_tlb.specs.declared.levels.Answered.TheVariants as answered
 use Rattle.xl_tlb.specs.declared.pair.Seen.{Seen}
 use Rattle.xl_tlb.specs.declared.pair.Seen.TheVariants as seen
-use Rattle.xl_tlb.specs.declared.newest.MruPages.{MruPages}
 use Rattle.xl_tlb.specs.Answers.{IsNowhere, IsWord}
 use Rattle.xl_array.specs.Arrays.{IsCommon}
-use Rattle.xl_tlb.specs.Fronts.{FirstLacks, FrontsStay, HasEights, IsFront}
+use Rattle.xl_tlb.specs.Firsts.{IsKept, alone_at}
+use Rattle.xl_tlb.specs.Fronts.{FirstLacks}
 use Rattle.xl_array.specs.Touches.{IsFrontHit, IsPageTouch, IsTouch, LacksSmall}
-use Rattle.xl_tlb.specs.Known.{Knows}
-use Rattle.xl_tlb.specs.Tlbs.{TlbState, spec_of, leaf_replied, tlb_filled, tlb_looked}
+use Rattle.xl_tlb.specs.Tlbs.{TlbState, leaf_replied, tlb_filled, tlb_looked}
 
 -- One of two arrays that are looked at together: it takes leaves of 4 KiB, and is a common one.
 pub record IsOfPair (s : TlbSpec) : Type 0 where
@@ -67,22 +66,6 @@ IsOne [] = ⊥
 IsOne (s ∷ []) = (s.serves ≡ serves.All) × (takes_order s order.K4 ≡ true)
 IsOne (s ∷ t ∷ rest) = ⊥
 
--- The number of the first array of accesses of this kind, where one serves all.
-abbrev pub all_first : Kind → ℕ
-all_first k = 0
-
--- The same, where fetches and data have one each.
-abbrev pub first_of_kind : Kind → ℕ
-first_of_kind kind.Fetch = 0
-first_of_kind kind.Load = 1
-first_of_kind kind.Store = 1
-
--- The array with this number alone.
-abbrev pub alone_at : ℕ → List TlbArray → List TlbArray
-alone_at i [] = []
-alone_at zero (a ∷ rest) = a ∷ []
-alone_at (suc i) (a ∷ rest) = alone_at i rest
-
 -- The result of a look in two arrays, and what it leaves of them.
 abbrev pub IsPairLook : ℕ → ℕ → Seen → TlbArray → TlbArray → TlbArray → TlbArray → Type 0
 IsPairLook space page (seen.First word) a b new after = IsTouch space page word a new × (after ≡ b)
@@ -124,12 +107,6 @@ pub record IsAloneFill (space page word : ℕ) (a new : TlbArray) : Type 0 where
 pub data AtOne (P : TlbArray → TlbArray → Type 0) : List TlbArray → List TlbArray → Type 0 where
   Alone : (a new : TlbArray) (is : P a new) → AtOne P (a ∷ []) (new ∷ [])
 
--- The leaf of 4 KiB with this word is the newest of its set of the first array of this kind; other leaves in front stay there where the sets are a multiple of eight, and other first arrays stay.
-pub record IsKept (first : Kind → ℕ) (k : Kind) (space page word : ℕ) (old new : List TlbArray) : Type 0 where
-  pub front : IsFront space page word (alone_at (first k) new)
-  pub stays : HasEights (alone_at (first k) old) → FrontsStay (page % 8) (alone_at (first k) old) (alone_at (first k) new)
-  pub others : (j : Kind) → (first j ≡ first k → ⊥) → alone_at (first j) new ≡ alone_at (first j) old
-
 -- A leaf of 4 KiB with this word answers an access of this kind, and may be kept.
 pub record IsKnownWord (first : Kind → ℕ) (k : Kind) (space page word : ℕ) (old new : TlbState) : Type 0 where
   pub found : Some (small_leaf space page word) ≡ leaf_replied (answer_of k old.arrays space page)
@@ -154,21 +131,3 @@ IsAnswered first k space page answered.Unknown old new = FirstLacks space page (
 pub record IsKnownFill (first : Kind → ℕ) (k : Kind) (space page word : ℕ) (old new : TlbState) : Type 0 where
   pub after : new ≡ tlb_filled k (small_leaf space page word) old
   pub kept : IsKept first k space page word old.arrays new.arrays
-
--- What is always so of one array.
-pub record FitsOne (eights : Bool) (pages : MruPages) (arrays : List TlbArray) : Type 0 where
-  pub one : IsOne (map spec_of arrays)
-  pub by_eight : eights ≡ true → HasEights arrays
-  pub knows : Knows pages (alone_at 0 arrays)
-
--- What is always so of a first array and a second one.
-pub record FitsJoint (pages : MruPages) (arrays : List TlbArray) : Type 0 where
-  pub joint : AreJoint (map spec_of arrays)
-  pub knows : Knows pages (alone_at 0 arrays)
-
--- What is always so of arrays for fetches and for data over one for all.
-pub record FitsSplit (of_fetches of_data pages : MruPages) (arrays : List TlbArray) : Type 0 where
-  pub split : AreSplit (map spec_of arrays)
-  pub none : Knows pages []
-  pub fetches : Knows of_fetches (alone_at 0 arrays)
-  pub loads : Knows of_data (alone_at 1 arrays)

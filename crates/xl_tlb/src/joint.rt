@@ -4,23 +4,22 @@
 //! them. Both are looked at in line: saves the look in turn, and asks nothing for larger leaves
 //! where there are none.
 
-ghost use Rattle.std.specs.Prelude.{◌≡◌, true, map};
-ghost use Rattle.xl_model.specs.declared.address.Kind.{Kind as KindOf};
+ghost use Rattle.std.specs.Prelude.{◌≡◌, true, false, map};
 ghost use Rattle.xl_model.specs.declared.address.Order.TheVariants as order_of;
-ghost use Rattle.xl_tlb.specs.Shapes.{AreJoint, AtBoth, FitsJoint, IsKnownAnswer, IsKnownFill, IsPairFill, IsPairLook, all_first, alone_at};
+ghost use Rattle.xl_tlb.specs.Shapes.{AreJoint, AtBoth, IsPairFill, IsPairLook};
+ghost use Rattle.xl_tlb.specs.Firsts.{alone_at};
 ghost use Rattle.xl_tlb.specs.Fronts.{FirstLacks};
 ghost use Rattle.xl_array.specs.Lookup.{IsLookup};
 ghost use Rattle.xl_tlb.specs.Tlbs.{spec_of};
 
+use crate::known::KnownPages;
 use crate::levels::{Answered, Levels};
-use crate::newest::MruPages;
 use crate::pair::{Seen, Step, fill_pair, first_and_rest};
-use crate::shape::{Known, Shape};
+use crate::shape::Shape;
 use xl_array::{AnyArray, Lookup};
 use xl_model::Kind;
 
-/// Two such arrays: all that is known of them lies in `Known`.
-#[derive(Drop)]
+/// Two such arrays.
 pub(crate) struct Joint;
 
 /// Whether these are two such arrays.
@@ -60,57 +59,30 @@ fn fill_both(arrays: &mut [AnyArray], lookup: Lookup, word: u64)
     fill_pair(first, second, lookup, word);
 }
 
-impl Levels {
-    /// Takes a step in both arrays, and counts what it finds. A leaf of 4 KiB is the newest of its
-    /// set of the first array then.
-    #[inline(always)]
-    fn look_joint<P: Step>(&mut self, lookup: Lookup) -> Answered
-        requires lookup { IsLookup order_of.K4 lookup }
-        requires joint { AreJoint (map spec_of self.old.arrays) }
-        requires lacks { P.lacks ≡ true
-            → FirstLacks lookup.space lookup.page (alone_at 0 self.old.arrays) }
-        ensures { (k : KindOf) →
-            IsKnownAnswer all_first k lookup.space lookup.page result self.old self.new }
-    {
-        let seen = look_both::<P>(&mut self.arrays, lookup);
-        self.count(0, 1, seen)
-    }
-
-    /// Fills both arrays with the leaf of 4 KiB that is sought.
-    #[inline(always)]
-    fn fill_joint(&mut self, lookup: Lookup, word: u64)
-        requires lookup { IsLookup order_of.K4 lookup }
-        requires joint { AreJoint (map spec_of self.old.arrays) }
-        ensures { (k : KindOf) →
-            IsKnownFill all_first k lookup.space lookup.page word self.old self.new }
-    {
-        fill_both(&mut self.arrays, lookup, word);
-        self.fills = self.fills.wrapping_add(2);
-    }
-}
-
 impl Shape for Joint {
-    ghost first = { all_first };
+    ghost split = { false };
 
-    ghost fits = { λ j pages arrays. FitsJoint pages arrays };
+    ghost fits = { AreJoint };
 
     #[inline(always)]
-    fn look_in<P: Step>(&self, known: &mut Known, _kind: Kind, lookup: Lookup) -> Answered {
-        known.levels.look_joint::<P>(lookup)
+    fn first(_kind: Kind) -> usize {
+        0
     }
 
     #[inline(always)]
-    fn fill_in(&self, known: &mut Known, _kind: Kind, lookup: Lookup, word: u64) {
-        known.levels.fill_joint(lookup, word);
+    fn has_eights(_pages: &KnownPages) -> bool {
+        true
     }
 
     #[inline(always)]
-    fn keep(&mut self, pages: &mut MruPages, _kind: Kind, lookup: Lookup, word: u64) {
-        pages.renew(true, lookup, word);
+    fn look_in<P: Step>(levels: &mut Levels, _kind: Kind, lookup: Lookup) -> Answered {
+        let seen = look_both::<P>(&mut levels.arrays, lookup);
+        levels.count(0, 1, seen)
     }
 
     #[inline(always)]
-    fn forget(&mut self, pages: &mut MruPages) {
-        pages.forget();
+    fn fill_in(levels: &mut Levels, _kind: Kind, lookup: Lookup, word: u64) {
+        fill_both(&mut levels.arrays, lookup, word);
+        levels.fills = levels.fills.wrapping_add(2);
     }
 }

@@ -1,21 +1,30 @@
-//! Memo of pages that hit the newest leaf of their set in the first array.
+//! Memo of pages that hit the newest leaf of their set in a first array.
 
-ghost use Rattle.std.specs.Prelude.{true, ◌≡◌, ◌<◌, ◌%◌, List, IfSome};
+ghost use Rattle.std.specs.Prelude.{ℕ, true, ◌≡◌, ◌<◌, ◌%◌, List, IfSome};
 ghost use Rattle.xl_model.specs.Tlb.{TlbArray};
 ghost use Rattle.xl_tlb.specs.Fronts.{IsFront, FrontsStay};
-ghost use Rattle.xl_tlb.specs.Known.{Knows};
+ghost use Rattle.xl_tlb.specs.Known.{Knows, StaysKnown, page_place};
 ghost use Rattle.xl_array.specs.Lookup.{IsLookup};
 ghost use Rattle.xl_model.specs.declared.address.Order.TheVariants as order;
 
 use xl_array::Lookup;
 
-/// For eight pages at most, the words of the leaves that answer them: each is the newest of its set
-/// of the first array. A page's place is its number's last three bits, and its key the tag of its
-/// leaf.
+/// For eight pages at most of each of two first arrays, the words of the leaves that answer them:
+/// each is the newest of its set of that array. A page's place among the eight is its number's last
+/// three bits, and its key the tag of its leaf.
 #[derive(Clone, Copy)]
 pub(crate) struct MruPages {
-    keys: [u64; 8],
-    words: [u64; 8],
+    keys: [u64; 16],
+    words: [u64; 16],
+}
+
+/// The place of a page of the first array with this number.
+#[inline(always)]
+fn place_of(first: usize, page: u64) -> usize
+    requires { first < 2 }
+    ensures { result ≡ page_place first page }
+{
+    first * 8 + (page % 8) as usize
 }
 
 /// Empty slot; no tag has this value.
@@ -24,45 +33,48 @@ const NONE: u64 = u64::MAX;
 impl MruPages {
     /// No page is known.
     pub fn none() -> MruPages
-        ensures { (arrays : List TlbArray) → Knows result arrays }
+        ensures { (first : ℕ) (arrays : List TlbArray) → Knows first result arrays }
     {
         MruPages {
-            keys: [NONE; 8],
-            words: [0; 8],
+            keys: [NONE; 16],
+            words: [0; 16],
         }
     }
 
     /// No page is known from now on.
     #[inline]
     pub fn forget(&mut self)
-        ensures { (arrays : List TlbArray) → Knows self.new arrays }
+        ensures { (first : ℕ) (arrays : List TlbArray) → Knows first self.new arrays }
     {
-        self.keys = [NONE; 8];
+        self.keys = [NONE; 16];
     }
 
-    /// What may have lost its front is not known from now on, where leaves of one set came or
-    /// moved: that of the block with this number. Where the sets are a multiple of eight, the pages
-    /// of the set have the block's last three bits, and so one place.
+    /// What may have lost its front is not known from now on, where leaves of one set of this first
+    /// array came or moved: that of the block with this number. Where the sets are a multiple of
+    /// eight, the pages of the set have the block's last three bits, and so one place.
     #[inline]
-    pub fn forget_block(&mut self, eights: bool, block: u64)
-        ensures { (old new : List TlbArray) → Knows self.old old
-            → (eights ≡ true → FrontsStay (block % 8) old new) → Knows self.new new }
+    pub fn forget_block(&mut self, first: usize, eights: bool, block: u64)
+        requires { first < 2 }
+        ensures known { (old new : List TlbArray) → Knows first self.old old
+            → (eights ≡ true → FrontsStay (block % 8) old new) → Knows first self.new new }
+        ensures others { StaysKnown first self.old self.new }
     {
         if !eights {
             self.forget();
         }
-        let place = (block % 8) as usize;
+        let place = place_of(first, block);
         self.keys[place] = NONE;
     }
 
-    /// The word of the leaf that the page hits, where the memo has it.
+    /// The word of the leaf of this first array that the page hits, where the memo has it.
     #[inline]
-    pub fn word(&self, lookup: Lookup) -> Option<u64>
-        requires { IsLookup order.K4 lookup }
-        ensures { (arrays : List TlbArray) → Knows self.now arrays
+    pub fn word(&self, first: usize, lookup: Lookup) -> Option<u64>
+        requires first { first < 2 }
+        requires lookup { IsLookup order.K4 lookup }
+        ensures { (arrays : List TlbArray) → Knows first self.now arrays
             → IfSome result (λ word. IsFront lookup.space lookup.page word arrays) }
     {
-        let place = (lookup.page % 8) as usize;
+        let place = place_of(first, lookup.page);
         if self.keys[place] == lookup.tag {
             return Some(self.words[place]);
         }
@@ -71,24 +83,28 @@ impl MruPages {
 
     /// Keeps the word of the leaf that the page hits, after leaves of its set moved.
     #[inline]
-    pub fn renew(&mut self, eights: bool, lookup: Lookup, word: u64)
-        requires { IsLookup order.K4 lookup }
-        ensures { (old new : List TlbArray) → Knows self.old old
+    pub fn renew(&mut self, first: usize, eights: bool, lookup: Lookup, word: u64)
+        requires first { first < 2 }
+        requires lookup { IsLookup order.K4 lookup }
+        ensures known { (old new : List TlbArray) → Knows first self.old old
             → (eights ≡ true → FrontsStay (lookup.page % 8) old new)
-            → IsFront lookup.space lookup.page word new → Knows self.new new }
+            → IsFront lookup.space lookup.page word new → Knows first self.new new }
+        ensures others { StaysKnown first self.old self.new }
     {
-        self.forget_block(eights, lookup.page);
-        self.keep(lookup, word);
+        self.forget_block(first, eights, lookup.page);
+        self.keep(first, lookup, word);
     }
 
     /// Keeps the word of the leaf that the page hits.
     #[inline]
-    fn keep(&mut self, lookup: Lookup, word: u64)
-        requires { IsLookup order.K4 lookup }
-        ensures { (arrays : List TlbArray) → Knows self.old arrays
-            → IsFront lookup.space lookup.page word arrays → Knows self.new arrays }
+    fn keep(&mut self, first: usize, lookup: Lookup, word: u64)
+        requires first { first < 2 }
+        requires lookup { IsLookup order.K4 lookup }
+        ensures known { (arrays : List TlbArray) → Knows first self.old arrays
+            → IsFront lookup.space lookup.page word arrays → Knows first self.new arrays }
+        ensures others { StaysKnown first self.old self.new }
     {
-        let place = (lookup.page % 8) as usize;
+        let place = place_of(first, lookup.page);
         self.keys[place] = lookup.tag;
         self.words[place] = word;
     }

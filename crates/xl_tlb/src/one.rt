@@ -3,27 +3,23 @@
 //! Taken where it takes leaves of 4 KiB. No other levels are looked for, and an array of four or
 //! eight ways is looked at in line: saves the look in turn.
 
-ghost use Rattle.std.specs.Prelude.{◌≡◌, true, map};
-ghost use Rattle.xl_model.specs.declared.address.Kind.{Kind as KindOf};
+ghost use Rattle.std.specs.Prelude.{◌≡◌, true, false, map};
 ghost use Rattle.xl_model.specs.declared.address.Order.TheVariants as order_of;
 ghost use Rattle.xl_tlb.specs.Fronts.{FirstLacks, HasEights};
-ghost use Rattle.xl_tlb.specs.Shapes.{AtOne, FitsOne, IsAloneFill, IsAloneLook, IsKnownAnswer, IsKnownFill, IsOne, all_first, alone_at};
+ghost use Rattle.xl_tlb.specs.Shapes.{AtOne, IsAloneFill, IsAloneLook, IsOne};
+ghost use Rattle.xl_tlb.specs.Firsts.{alone_at};
 ghost use Rattle.xl_array.specs.Lookup.{IsLookup};
 ghost use Rattle.xl_tlb.specs.Tlbs.{spec_of};
 
+use crate::known::KnownPages;
 use crate::levels::{Answered, Levels};
-use crate::newest::MruPages;
 use crate::pair::{Step, first_and_rest};
-use crate::shape::{Known, Shape};
+use crate::shape::Shape;
 use xl_array::{AnyArray, Lookup};
 use xl_model::Kind;
 
-/// Whether the sets of the one array are a multiple of eight. Where they aren't, one page is known
-/// at most.
-#[derive(Drop)]
-pub(crate) struct One {
-    pub eights: bool,
-}
+/// One such array.
+pub(crate) struct One;
 
 /// Whether this is one such array.
 pub(crate) fn is_one(arrays: &[AnyArray]) -> bool
@@ -69,57 +65,30 @@ fn fill_alone(arrays: &mut [AnyArray], lookup: Lookup, word: u64)
     first.fill_in(set, lookup, word);
 }
 
-impl Levels {
-    /// Takes a step in the array, and counts what it finds. A leaf of 4 KiB is the newest of its
-    /// set then.
-    #[inline(always)]
-    fn look_one<P: Step>(&mut self, lookup: Lookup) -> Answered
-        requires lookup { IsLookup order_of.K4 lookup }
-        requires one { IsOne (map spec_of self.old.arrays) }
-        requires lacks { P.lacks ≡ true
-            → FirstLacks lookup.space lookup.page (alone_at 0 self.old.arrays) }
-        ensures { (k : KindOf) →
-            IsKnownAnswer all_first k lookup.space lookup.page result self.old self.new }
-    {
-        let answered = look_alone::<P>(&mut self.arrays, lookup);
-        self.count_alone(answered)
-    }
-
-    /// Fills the array with the leaf of 4 KiB that is sought.
-    #[inline(always)]
-    fn fill_one(&mut self, lookup: Lookup, word: u64)
-        requires lookup { IsLookup order_of.K4 lookup }
-        requires one { IsOne (map spec_of self.old.arrays) }
-        ensures { (k : KindOf) →
-            IsKnownFill all_first k lookup.space lookup.page word self.old self.new }
-    {
-        fill_alone(&mut self.arrays, lookup, word);
-        self.fills = self.fills.wrapping_add(1);
-    }
-}
-
 impl Shape for One {
-    ghost first = { all_first };
+    ghost split = { false };
 
-    ghost fits = { λ o pages arrays. FitsOne o.eights pages arrays };
+    ghost fits = { IsOne };
 
     #[inline(always)]
-    fn look_in<P: Step>(&self, known: &mut Known, _kind: Kind, lookup: Lookup) -> Answered {
-        known.levels.look_one::<P>(lookup)
+    fn first(_kind: Kind) -> usize {
+        0
     }
 
     #[inline(always)]
-    fn fill_in(&self, known: &mut Known, _kind: Kind, lookup: Lookup, word: u64) {
-        known.levels.fill_one(lookup, word);
+    fn has_eights(pages: &KnownPages) -> bool {
+        pages.eights
     }
 
     #[inline(always)]
-    fn keep(&mut self, pages: &mut MruPages, _kind: Kind, lookup: Lookup, word: u64) {
-        pages.renew(self.eights, lookup, word);
+    fn look_in<P: Step>(levels: &mut Levels, _kind: Kind, lookup: Lookup) -> Answered {
+        let answered = look_alone::<P>(&mut levels.arrays, lookup);
+        levels.count_alone(answered)
     }
 
     #[inline(always)]
-    fn forget(&mut self, pages: &mut MruPages) {
-        pages.forget();
+    fn fill_in(levels: &mut Levels, _kind: Kind, lookup: Lookup, word: u64) {
+        fill_alone(&mut levels.arrays, lookup, word);
+        levels.fills = levels.fills.wrapping_add(1);
     }
 }

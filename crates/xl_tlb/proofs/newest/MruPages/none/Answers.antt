@@ -1,6 +1,6 @@
-use Rattle.xl_tlb.proofs.Common.{◌%◌, IsKey, subst, ℕ}
-use Rattle.xl_tlb.proofs.KnownLemmas.{all_none, not_a_key}
+use Rattle.xl_tlb.proofs.Common.{IsKey, page_place, subst, ℕ}
+use Rattle.xl_tlb.proofs.KnownLemmas.{none_of, not_a_key}
 use Rattle.xl_tlb.proofs.newest.MruPages.none.Goals as goal
 
 pub returns : goal.returns
-returns c arrays space page key = absurd (not_a_key space page (subst (λ (z : ℕ). IsKey z space page) (all_none (page % 8)) key))
+returns c first arrays space page key = absurd (not_a_key space page (subst (λ (z : ℕ). IsKey z space page) (none_of 16 (page_place first page)) key))

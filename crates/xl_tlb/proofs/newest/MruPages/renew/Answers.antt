@@ -1,4 +1,7 @@
 use Rattle.xl_tlb.proofs.newest.MruPages.renew.Goals as goal
 
-pub returns : goal.returns
-returns c old new knows stay front = c.keep.ensures new (c.forget_block.ensures old new knows stay) front
+pub returns-clause-known : goal.returns-clause-known
+returns-clause-known c old new knows stay front = c.keep.ensures.known new (c.forget_block.ensures.known old new knows stay) front
+
+pub returns-clause-others : goal.returns-clause-others
+returns-clause-others c other arrays apart known = c.keep.ensures.others other arrays apart (c.forget_block.ensures.others other arrays apart known)

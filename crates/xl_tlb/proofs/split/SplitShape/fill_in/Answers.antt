@@ -1,31 +1,31 @@
 use Rattle.xl_tlb.proofs.Common.{◌++◌, ◌∙◌, ◌≡◌, ap, AreSplit, AtKind, drop, IsPairFill, length, map, small_leaf, spec_of, sym, take}
 use Rattle.xl_tlb.proofs.SplitLemmas.{split_filled}
 use Rattle.xl_tlb.proofs.TlbLemmas.{fill_after, fill_kept, written}
-use Rattle.xl_tlb.proofs.levels.Levels.fill_split.Goals as goal
+use Rattle.xl_tlb.proofs.split.SplitShape.fill_in.Goals as goal
 
-pub invariant_of-self : goal.invariant_of-self
-invariant_of-self c =
-    let t = c.self.inside in
+pub invariant_of-levels : goal.invariant_of-levels
+invariant_of-levels c =
+    let t = c.levels.inside in
     let s = c.args.lookup in
     let new = c.fill_split.new.arrays in
     let fill : AtKind (IsPairFill s.space s.page c.args.word) c.args.kind t.arrays.items new = rw c.deref_mut.ensures.value at c.fill_split.ensures in
-    let split : AreSplit (map spec_of t.arrays.items) = rw (← c.self.view_is) at c.requires.split in
+    let split : AreSplit (map spec_of t.arrays.items) = rw (← c.levels.view_is) at c.requires.fits in
     let is = split_filled s c.args.word c.args.kind t.arrays.items new fill split in
     let back : take t.arrays.len (new ++ drop (length new) t.arrays.items) ≡ new =
     written t.arrays.len new t.arrays.items (c.fill_split.auto.arrays ∙ ap length c.deref_mut.ensures.value) (sym c.deref_mut.ensures.len ∙ ap length c.deref_mut.ensures.value) in
-    rw back (fill_kept t.arrays.items new t.hits t.hits t.misses t.misses t.fills _ c.self.invariant c.args.kind (small_leaf s.space s.page c.args.word) is.0.filled)
+    rw back (fill_kept t.arrays.items new t.hits t.hits t.misses t.misses t.fills _ c.levels.invariant c.args.kind (small_leaf s.space s.page c.args.word) is.0.filled)
 
 pub returns : goal.returns
 returns c =
-    let t = c.self.inside in
+    let t = c.levels.inside in
     let s = c.args.lookup in
     let new = c.fill_split.new.arrays in
     let fill : AtKind (IsPairFill s.space s.page c.args.word) c.args.kind t.arrays.items new = rw c.deref_mut.ensures.value at c.fill_split.ensures in
-    let split : AreSplit (map spec_of t.arrays.items) = rw (← c.self.view_is) at c.requires.split in
+    let split : AreSplit (map spec_of t.arrays.items) = rw (← c.levels.view_is) at c.requires.fits in
     let is = split_filled s c.args.word c.args.kind t.arrays.items new fill split in
     let back : take t.arrays.len (new ++ drop (length new) t.arrays.items) ≡ new =
     written t.arrays.len new t.arrays.items (c.fill_split.auto.arrays ∙ ap length c.deref_mut.ensures.value) (sym c.deref_mut.ensures.len ∙ ap length c.deref_mut.ensures.value) in
-    rw (back, ← c.self.view_is) (record {
+    rw (back, ← c.levels.view_is) (record {
       after = fill_after c.args.kind t.arrays.items new t.hits t.misses t.fills 2 (small_leaf s.space s.page c.args.word) is.0.filled is.0.count;
       kept = is.1;
     })
