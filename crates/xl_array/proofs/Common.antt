@@ -4,6 +4,7 @@ pub use Rattle.std.proofs.Math.ListN.{get_or-map}
 pub use Rattle.std.proofs.Math.Nat.{mod-lt, pow-le-pow_right}
 pub use Rattle.std.proofs.lemmas.Bool.Decides.{nat_tests}
 pub use Rattle.std.specs.List.{All, list_all}
+pub use Rattle.std.specs.Option.{IfNone, IfSome}
 pub use Rattle.xl_model.proofs.ArrayLemmas.{filled-spec, touched-spec}
 pub use Rattle.xl_model.specs.Addresses.{pages_of}
 pub use Rattle.xl_model.specs.LeafWords.{leaf_with, small_leaf}
@@ -18,4 +19,4 @@ pub use Rattle.xl_array.specs.Any.{array_in}
 pub use Rattle.xl_array.specs.Arrays.{covers_anywhere, covers_anywhere_as, is_any, is_in_set, is_of_space, is_same, IsArray, IsFit}
 pub use Rattle.xl_array.specs.Coding.{has_block, has_space, is_item, leaves_of}
 pub use Rattle.xl_array.specs.Equal.{is_equal, keeps_leaf}
-pub use Rattle.xl_array.specs.Hits.{leaf_hit, word_touched}
+pub use Rattle.xl_array.specs.Hits.{hit_touched, leaf_hit, word_touched}

@@ -1,26 +1,25 @@
 //! A TLB array of a width that is known when the program runs.
 
 ghost use Rattle.std.specs.Prelude.{ℕ, true, false, is_some, ◌≡◌, ◌<◌, ◌≤◌, ◌^◌, ◌+◌, ◌*◌, ◌%◌, None, IfSome, IfNone, IfOk};
-ghost use Rattle.xl_model.specs.Tlb.{array_filled, array_hit, first_found, found_as, opening_array, serves_kind, takes_order, is_purged, reaches_leaf, array_without, leaves_in_sets};
+ghost use Rattle.xl_model.specs.Tlb.{array_filled, array_hit, found_as, opening_array, serves_kind, takes_order, is_purged, reaches_leaf, array_without, leaves_in_sets};
 ghost use Rattle.xl_model.specs.declared.address.Order.TheVariants as order_of;
-ghost use Rattle.xl_model.specs.declared.row.Serves.TheVariants as serves_of;
 ghost use Rattle.xl_model.specs.Base.{one_if};
 ghost use Rattle.xl_array.specs.Any.{array_in, width_in};
 ghost use Rattle.xl_array.specs.Arrays.{IsCommon, IsFit, InLimits};
 ghost use Rattle.xl_array.specs.Lookup.{IsAt, IsFilled, IsLookup, IsTouched};
 ghost use Rattle.xl_array.specs.Touches.{IsFrontHit, IsPageTouch, LacksSmall};
 ghost use Rattle.xl_model.specs.LeafWords.{small_leaf};
-ghost use Rattle.xl_array.specs.Held.{Counts};
-ghost use Rattle.xl_array.specs.Hits.{hit_leaf, leaf_hit, hit_touched, word_leaf, word_touched};
+ghost use Rattle.xl_array.specs.Held.{Counts, Smalls};
+ghost use Rattle.xl_array.specs.Hits.{hit_leaf, leaf_hit, hit_touched};
 ghost use Rattle.xl_recency.specs.Widths.{IsWidth};
 
 use crate::array::{Array, Filled};
-use crate::coding::{Hit, page_word};
+use crate::coding::Hit;
 use crate::lookup::Lookup;
 use crate::places::Places;
 use std::alloc::Global;
 use std::marker::Model;
-use xl_model::{Kind, Leaf, NoMemory, Order, Purge, Reach, TlbSpec};
+use xl_model::{Kind, Leaf, NoMemory, Order, Purge, Reach, Serves, TlbSpec};
 
 /// The array of each width.
 #[derive(Drop)]
@@ -148,24 +147,52 @@ fn open_array(alloc: Global, spec: TlbSpec) -> Result<Arrays, NoMemory>
     })
 }
 
-/// Brings the leaf of the order that is sought to the front of its set, and gives its word.
+/// Brings the leaf of 4 KiB that is sought to the front of its set, and gives its word.
 #[inline(never)]
-fn touch_at_width(arrays: &mut Arrays, set: usize, lookup: Lookup, order: Order) -> Option<u64>
-    requires { IsAt order set lookup (array_in arrays.old).spec }
-    ensures { IsTouched order lookup (array_in arrays.old) result (array_in arrays.new) }
+fn touch_at_width(arrays: &mut Arrays, set: usize, lookup: Lookup) -> Option<u64>
+    requires { IsAt order_of.K4 set lookup (array_in arrays.old).spec }
+    ensures { IsTouched order_of.K4 lookup (array_in arrays.old) result (array_in arrays.new) }
 {
-    at_width!(arrays, array => array.touch_in(set, lookup, order))
+    at_width!(arrays, array => array.touch_in(set, lookup))
 }
 
 /// Does what `touch_at_width` does in a common array, inlined.
 #[inline(always)]
-fn touch_at_common(arrays: &mut Arrays, set: usize, lookup: Lookup, order: Order) -> Option<u64>
-    requires at { IsAt order set lookup (array_in arrays.old).spec }
+fn touch_at_common(arrays: &mut Arrays, set: usize, lookup: Lookup) -> Option<u64>
+    requires at { IsAt order_of.K4 set lookup (array_in arrays.old).spec }
     requires common { IsCommon (array_in arrays.old).spec }
-    ensures { IsTouched order lookup (array_in arrays.old) result (array_in arrays.new) }
+    ensures { IsTouched order_of.K4 lookup (array_in arrays.old) result (array_in arrays.new) }
 {
     know_width(arrays);
-    at_common_width!(arrays, array => array.touch_in(set, lookup, order))
+    at_common_width!(arrays, array => array.touch_in(set, lookup))
+}
+
+/// Looks for the page in the orders that the array takes, from 4 KiB up; in 4 KiB alone where there
+/// are no larger leaves.
+fn look_at_width(arrays: &mut Arrays, space: u16, page: u64, large: bool) -> Option<Hit>
+    requires space { space < 64 }
+    requires page { page < 2 ^ 52 }
+    requires smalls { Smalls large (array_in arrays.old).sets }
+    ensures found { hit_leaf space page result ≡ array_hit (array_in arrays.old) space page }
+    ensures some { IfSome result (λ hit.
+        array_in arrays.new ≡ hit_touched space page hit (array_in arrays.old)) }
+    ensures none { IfNone result (array_in arrays.new ≡ array_in arrays.old) }
+{
+    at_width!(arrays, array => array.look(space, page, large))
+}
+
+/// Brings a leaf above 4 KiB that covers the page to the front of its set, where none of 4 KiB does,
+/// and gives the word of the page.
+fn touch_large_at_width(arrays: &mut Arrays, space: u16, page: u64) -> Option<u64>
+    requires space { space < 64 }
+    requires page { page < 2 ^ 52 }
+    requires lacks { LacksSmall space page (array_in arrays.old) }
+    ensures some { IfSome result (λ word.
+        IsPageTouch space page word (array_in arrays.old) (array_in arrays.new)) }
+    ensures none { IfNone result (array_in arrays.new ≡ array_in arrays.old) }
+    ensures missed { IfNone result (None ≡ array_hit (array_in arrays.old) space page) }
+{
+    at_width!(arrays, array => array.touch_large(space, page))
 }
 
 /// Fills the array with the leaf sought. Returns whether the number of entries grew.
@@ -257,25 +284,11 @@ impl AnyArray {
         self.places.serves(kind)
     }
 
-    /// Whether it serves accesses of every kind.
-    pub fn serves_all(&self) -> bool
-        ensures { result ≡ true → self.now.spec.serves ≡ serves_of.All }
+    /// Which accesses it serves.
+    pub fn serving(&self) -> Serves
+        ensures { result ≡ self.now.spec.serves }
     {
-        self.places.serve_all()
-    }
-
-    /// Whether it serves fetches alone.
-    pub fn serves_fetches(&self) -> bool
-        ensures { result ≡ true → self.now.spec.serves ≡ serves_of.Fetch }
-    {
-        self.places.serve_fetches()
-    }
-
-    /// Whether it serves data alone.
-    pub fn serves_data(&self) -> bool
-        ensures { result ≡ true → self.now.spec.serves ≡ serves_of.Data }
-    {
-        self.places.serve_data()
+        self.places.serving()
     }
 
     /// Whether it takes leaves of 4 KiB.
@@ -338,63 +351,39 @@ impl AnyArray {
         self.places.set_by_mask(lookup.page)
     }
 
-    /// Brings the leaf of the order that is sought to the front of its set, and gives its word.
+    /// Brings the leaf of 4 KiB that is sought to the front of its set, and gives its word.
     #[inline(always)]
-    pub fn touch_in(&mut self, set: usize, lookup: Lookup, order: Order) -> Option<u64>
-        requires { IsAt order set lookup self.old.spec }
-        ensures { IsTouched order lookup self.old result self.new }
+    pub fn touch_in(&mut self, set: usize, lookup: Lookup) -> Option<u64>
+        requires { IsAt order_of.K4 set lookup self.old.spec }
+        ensures { IsTouched order_of.K4 lookup self.old result self.new }
     {
-        touch_at_width(&mut self.array, set, lookup, order)
+        touch_at_width(&mut self.array, set, lookup)
     }
 
     /// Does what `touch_in` does in a common array, inlined.
     #[inline(always)]
-    pub fn touch_common(&mut self, set: usize, lookup: Lookup, order: Order) -> Option<u64>
-        requires at { IsAt order set lookup self.old.spec }
+    pub fn touch_common(&mut self, set: usize, lookup: Lookup) -> Option<u64>
+        requires at { IsAt order_of.K4 set lookup self.old.spec }
         requires common { IsCommon self.old.spec }
-        ensures { IsTouched order lookup self.old result self.new }
+        ensures { IsTouched order_of.K4 lookup self.old result self.new }
     {
-        touch_at_common(&mut self.array, set, lookup, order)
+        touch_at_common(&mut self.array, set, lookup)
     }
 
-    /// Does what `touch_in` does for 4 KiB, inlined where the array is a common one.
+    /// Does what `touch_in` does, inlined where the array is a common one.
     #[inline(always)]
     pub fn touch_small(&mut self, set: usize, lookup: Lookup) -> Option<u64>
         requires { IsAt order_of.K4 set lookup self.old.spec }
         ensures { IsTouched order_of.K4 lookup self.old result self.new }
     {
         if self.is_common() {
-            return self.touch_common(set, lookup, Order::K4);
+            return self.touch_common(set, lookup);
         }
-        self.touch_in(set, lookup, Order::K4)
-    }
-
-    /// Brings the newest leaf of the order that covers the page to the front of its set, and gives
-    /// its word. None where none covers it, or the array doesn't take the order; then nothing
-    /// changes.
-    #[inline(always)]
-    fn touch(&mut self, common: bool, space: u16, page: u64, order: Order) -> Option<u64>
-        requires space { space < 64 }
-        requires page { page < 2 ^ 52 }
-        requires common { common ≡ true → IsCommon self.old.spec }
-        ensures found { word_leaf space page order result ≡ found_as self.old space page order }
-        ensures some { IfSome result (λ w. self.new ≡ word_touched space page order w self.old) }
-        ensures none { IfNone result (self.new ≡ self.old) }
-    {
-        if !self.places.takes(order) {
-            return None;
-        }
-        let set = self.places.set_of(page, order);
-        let lookup = Lookup::of(space, page, order);
-        if common {
-            return self.touch_common(set, lookup, order);
-        }
-        self.touch_in(set, lookup, order)
+        self.touch_in(set, lookup)
     }
 
     /// Looks for the page in the orders that the array takes, from 4 KiB up; in 4 KiB alone where
     /// there are no larger leaves.
-    #[tactic(auto, unfolding(xl_model::specs::Tlb::array_hit))]
     pub fn look(&mut self, space: u16, page: u64) -> Option<Hit>
         requires space { space < 64 }
         requires page { page < 2 ^ 52 }
@@ -405,61 +394,22 @@ impl AnyArray {
         if self.is_empty() {
             return None;
         }
-        let large = self.has_large();
-        match self.touch(false, space, page, Order::K4) {
-            Some(word) => Some(Hit {
-                word,
-                order: Order::K4,
-            }),
-            None if large => self.look_above(false, space, page),
-            None => None,
-        }
-    }
-
-    /// Looks for the page in the orders above 4 KiB that the array takes.
-    #[inline(never)]
-    fn look_above(&mut self, common: bool, space: u16, page: u64) -> Option<Hit>
-        requires space { space < 64 }
-        requires page { page < 2 ^ 52 }
-        requires common { common ≡ true → IsCommon self.old.spec }
-        ensures found { hit_leaf space page result ≡ first_found
-            (found_as self.old space page order_of.M2) (found_as self.old space page order_of.G1) }
-        ensures some { IfSome result (λ hit. self.new ≡ hit_touched space page hit self.old) }
-        ensures none { IfNone result (self.new ≡ self.old) }
-    {
-        match self.touch(common, space, page, Order::M2) {
-            Some(word) => Some(Hit {
-                word,
-                order: Order::M2,
-            }),
-            None => match self.touch(common, space, page, Order::G1) {
-                Some(word) => Some(Hit {
-                    word,
-                    order: Order::G1,
-                }),
-                None => None,
-            },
-        }
+        look_at_width(&mut self.array, space, page, self.large)
     }
 
     /// Brings a leaf above 4 KiB that covers the page to the front of its set, where none of 4 KiB
     /// does, and gives the word of the page. None where the array misses the page; then nothing
     /// changes.
     #[inline(always)]
-    #[tactic(auto, unfolding(xl_model::specs::Tlb::array_hit))]
-    pub fn touch_large(&mut self, common: bool, space: u16, page: u64) -> Option<u64>
+    pub fn touch_large(&mut self, space: u16, page: u64) -> Option<u64>
         requires space { space < 64 }
         requires page { page < 2 ^ 52 }
-        requires common { common ≡ true → IsCommon self.old.spec }
         requires lacks { LacksSmall space page self.old }
         ensures some { IfSome result (λ word. IsPageTouch space page word self.old self.new) }
         ensures none { IfNone result (self.new ≡ self.old) }
         ensures missed { IfNone result (None ≡ array_hit self.old space page) }
     {
-        let Some(hit) = self.look_above(common, space, page) else {
-            return None;
-        };
-        Some(page_word(page, hit))
+        touch_large_at_width(&mut self.array, space, page)
     }
 
     /// Fills the array with a leaf that was hit elsewhere. Whether it takes it.

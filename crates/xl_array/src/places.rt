@@ -3,7 +3,6 @@
 ghost use Rattle.std.specs.Prelude.{true, ◌≡◌, ◌<◌, ◌%◌, ◌^◌};
 ghost use Rattle.xl_model.specs.Tlb.{serves_as, set_number, takes_order};
 ghost use Rattle.xl_model.specs.declared.address.Order.TheVariants as order;
-ghost use Rattle.xl_model.specs.declared.row.Serves.TheVariants as serves_of;
 ghost use Rattle.xl_array.specs.Arrays.{HasMask, IsCommon};
 
 use std::marker::Model;
@@ -60,34 +59,11 @@ impl Places {
         self.spec.serves.serves(kind)
     }
 
-    /// Whether the array serves accesses of every kind.
-    pub fn serve_all(&self) -> bool
-        ensures { result ≡ true → self.now.serves ≡ serves_of.All }
+    /// Which accesses the array serves.
+    pub fn serving(&self) -> Serves
+        ensures { result ≡ self.now.serves }
     {
-        match self.spec.serves {
-            Serves::All => true,
-            Serves::Fetch | Serves::Data => false,
-        }
-    }
-
-    /// Whether the array serves fetches alone.
-    pub fn serve_fetches(&self) -> bool
-        ensures { result ≡ true → self.now.serves ≡ serves_of.Fetch }
-    {
-        match self.spec.serves {
-            Serves::Fetch => true,
-            Serves::All | Serves::Data => false,
-        }
-    }
-
-    /// Whether the array serves data alone.
-    pub fn serve_data(&self) -> bool
-        ensures { result ≡ true → self.now.serves ≡ serves_of.Data }
-    {
-        match self.spec.serves {
-            Serves::Data => true,
-            Serves::All | Serves::Fetch => false,
-        }
+        self.spec.serves
     }
 
     /// Whether the array has four or eight ways, and finds its sets by a mask.

@@ -123,7 +123,7 @@ impl Hart {
         ensures some { IfSome result (λ word. IsSeen page word self.old self.new) }
         ensures none { IfNone result (IsUnseen page self.old self.new) }
     {
-        let word = self.array.look(self.space, page, self.large)?;
+        let word = self.array.look_page(self.space, page, self.large)?;
         self.counts.hit();
         Some(word)
     }

@@ -3,13 +3,11 @@ pub use Rattle.std.proofs.Common.{◌%◌, ◌&&◌, ◌*◌, ◌++◌, ◌+◌,
 pub use Rattle.std.proofs.Math.Seq.{drop-append-add, drop-length, take-add, take-append-add}
 pub use Rattle.std.proofs.lemmas.Bool.{cases_lt, le-ltb, lt-ltb}
 pub use Rattle.std.proofs.lemmas.Bool.Decides.{eqb_tells, nat_tests}
-pub use Rattle.std.proofs.lemmas.List.{drop-drop, drop-take, drop_all, drop_more, get_or-drop, get_or-take, length-take-le, map-append, take-append-drop, take-append-le, take-set-le, take-take, take_all, take_more, take_more_set, take_rest}
+pub use Rattle.std.proofs.lemmas.List.{drop-drop, drop-take, drop_all, drop_more, get_or-drop, get_or-take, length-take-le, map-append, take-append-drop, take-set-le, take-take, take_all, take_more, take_more_set, take_rest}
 pub use Rattle.std.proofs.lemmas.List.Elements.{All-drop, All-from_get_or, All-from_recursion, All-get_or, All-head, All-replicate, All-set, All-tail, All-take}
 pub use Rattle.std.proofs.lemmas.Option.{same_Some}
-pub use Rattle.std.specs.List.{All, copy_within}
 pub use Rattle.std.specs.Option.{option_and_then, option_map}
 pub use Rattle.std.specs.Prelude.{if◌then◌else◌, ◌==◌, ◌||◌, ◌⊎◌, codes, IfSome, nat_le, nat_lt, None, Option, slice_get, slice_index, Some}
-pub use Rattle.xl_model.specs.Base.{one_if}
 pub use Rattle.xl_model.specs.declared.address.Kind.{Kind}
 pub use Rattle.xl_model.specs.declared.address.Kind.TheVariants.{Fetch, Load, Store}
 pub use Rattle.xl_text.specs.Numbers.{address_of, number_in}
@@ -23,7 +21,7 @@ pub use Rattle.xl_lackey.specs.Lines.{address_in, after, before, decimal_value, 
 unfoldable pub use Rattle.xl_lackey.specs.Lines.{judge}
 pub use Rattle.xl_lackey.specs.PrefixCache.{IsBeginning, IsPrefix, two_bytes}
 pub use Rattle.xl_lackey.specs.Scans.{IsFirstLine}
-pub use Rattle.xl_lackey.specs.Skims.{accesses_in, accesses_near, all_accesses, batch_size, Gathered, HasAccesses, IsRecordLine, IsSure, pair, read_of, Runs, skim_at, Skimmed, Skims, skims_both, Taken, Takes, with_records}
+pub use Rattle.xl_lackey.specs.Skims.{accesses_in, accesses_near, all_accesses, batch_size, Gathered, HasAccesses, IsRecordLine, IsSure, lines_after, pair, read_of, Runs, runs_both, Skimmed, Skims, Taken, Takes, with_records}
 pub use Rattle.xl_lackey.specs.Stream.{due, first_due, Left, left, left_by, MayCome, next_line, of_due, Record, records, State, unless_bad, with_verdict}
 pub use Rattle.xl_lackey.specs.Usual.{first_kind, is_modify, judged, judged_line, usual_front}
 pub use Rattle.xl_lackey.specs.declared.line.Verdict.{Verdict}
@@ -31,4 +29,4 @@ pub use Rattle.xl_lackey.specs.declared.line.Verdict.TheVariants.{Bad, Found, Sk
 pub use Rattle.xl_lackey.specs.declared.prefixes.Prefix.{Prefix}
 pub use Rattle.xl_lackey.specs.declared.reference.Letter.{Letter}
 pub use Rattle.xl_lackey.specs.declared.skim.Access.{Access}
-pub use Rattle.xl_lackey.specs.declared.skim.Skim.{Skim}
+pub use Rattle.xl_lackey.specs.declared.skim.Run.{Run}

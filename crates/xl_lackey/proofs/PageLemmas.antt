@@ -1,5 +1,6 @@
 -- Lines whose pages are kept: what the bytes of a page say of a line that has the same.
-use Rattle.xl_lackey.proofs.Common.{◌*◌, ◌++◌, ◌+◌, ◌/◌, ◌<◌, ◌^◌, ◌∙◌, ◌∷◌, ◌≡◌, ◌≤◌, ◌⊎◌, [], accesses_at, All, All-drop, All-from_recursion, All-head, All-tail, All-take, ap, append_assoc, ap₂, arith, borders, codes, drop, drop-append-add, drop-take, false, Fetch, first_kind, Found, get_or, get_or-drop, get_or-take, hex_digit, hex_value, IfSome, inl, inr, is_modify, IsBeginning, IsFirstLine, IsPrefix, IsRecordLine, Kind, length, length-append, length-drop, length-take-le, Letter, List, number_l, Option, option_and_then, places, Prefix, refl, same_Some, size_in, slice_index, Some, subst, sym, take, take-add, take-append-add, take-append-drop, take-take, take_more, two_bytes, usual_front, ℕ}
+use Rattle.xl_lackey.proofs.Common.{◌*◌, ◌++◌, ◌+◌, ◌/◌, ◌<◌, ◌^◌, ◌∙◌, ◌∷◌, ◌≡◌, ◌≤◌, ◌⊎◌, [], accesses_at, All-drop, All-from_recursion, All-head, All-tail, All-take, ap, append_assoc, ap₂, arith, borders, codes, drop, drop-append-add, drop-take, false, Fetch, first_kind, Found, get_or, get_or-drop, get_or-take, hex_digit, hex_value, IfSome, inl, inr, is_modify, IsBeginning, IsFirstLine, IsPrefix, IsRecordLine, Kind, length, length-append, length-drop, length-take-le, Letter, List, number_l, Option, option_and_then, places, Prefix, refl, same_Some, size_in, slice_index, Some, subst, sym, take, take-add, take-append-add, take-append-drop, take-take, take_more, two_bytes, usual_front, ℕ}
+use Rattle.std.specs.List.{All}
 use Rattle.xl_lackey.proofs.AddressLemmas.{digit_and_rest}
 use Rattle.xl_lackey.proofs.NearLineLemmas.{comma_at, numbers_at}
 use Rattle.xl_lackey.proofs.OwnFormLemmas.{front_length}

@@ -1,20 +1,18 @@
 -- Records taken one after another.
-use Rattle.xl_lackey.proofs.Common.{◌%◌, ◌++◌, ◌+◌, ◌<◌, ◌^◌, ◌∙◌, ◌∷◌, ◌≡◌, ◌≤◌, [], Access, accesses_in, all_accesses, ap, append-nil, append_assoc, ap₂, arith, Bad, drop, drop-drop, Found, Gives, HasAccesses, IsFirstLine, IsRecordLine, IsSure, Kind, Left, length, length-append, length-drop, length-set, lines_by, lines_of, List, map, map-append, next_line, None, pair, Record, records, refl, set, Skim, skim_at, Skimmed, Skims, skims_both, Skipped, State, subst, sym, take, take-set-le, take_more_set, Taken, Takes, Verdict, with_record, with_records, ℕ, accesses_near, one_if, Bool, true, false, Store}
+use Rattle.xl_lackey.proofs.Common.{◌++◌, ◌+◌, ◌<◌, ◌^◌, ◌∙◌, ◌∷◌, ◌≡◌, ◌≤◌, [], Access, accesses_in, accesses_near, all_accesses, ap, append-nil, append_assoc, ap₂, arith, Bad, Bool, drop, drop-drop, false, Found, Gives, HasAccesses, IsFirstLine, IsRecordLine, IsSure, Kind, Left, length, length-append, length-drop, length-set, Letter, lines_after, lines_by, lines_of, List, map, map-append, next_line, None, pair, Record, records, refl, Run, Runs, runs_both, set, Skimmed, Skims, Skipped, State, Store, sym, take, take-set-le, take_more_set, Taken, Takes, true, Verdict, with_record, with_records, ℕ}
+use Rattle.xl_model.specs.Base.{one_if}
 use Rattle.xl_lackey.proofs.SplitLemmas.{first_is, IsFirst, on_from, records_step}
 use Rattle.xl_lackey.proofs.StepLemmas.{left_passed}
-use Rattle.xl_lackey.specs.declared.reference.Letter.{Letter}
 
 -- no record was taken
 pub taken_none : (xs : List Access) → Taken xs xs 0
 taken_none xs = record { taken = []; got = []; follow = sym (append-nil xs); each = refl; many = refl }
 
-pub skim_start : (n : ℕ) (text : List ℕ) (xs : List Access) → Skims n text xs xs (record { used = 0; lines = n; taken = 0 })
+pub runs_none : (text : List ℕ) (xs : List Access) → Runs text xs xs (record { used = 0; taken = 0 })
 unfolding taken_none
-skim_start n text xs = record { within = omega arith; of = taken_none xs; reads = λ last rest. refl }
-
-pub skim_none : (n : ℕ) (text : List ℕ) (xs : List Access) → n < 2 ^ 64 → Skims n text xs xs (record { used = 0; lines = (n + 0) % 2 ^ 64; taken = 0 })
-skim_none n text xs h =
-    let same : n ≡ (n + 0) % 2 ^ 64 = omega arith in subst (λ (k : ℕ). Skims n text xs xs (record { used = 0; lines = k; taken = 0 })) same (skim_start n text xs)
+runs_none text xs n h =
+    let same : n ≡ lines_after n 0 = omega (arith, h) in
+    record { within = omega arith; of = taken_none xs; reads = λ last rest. ap (λ (k : ℕ). records k (lines_by last (text ++ rest))) same }
 
 -- records, and others after them
 all-both : (rs qs : List Record) → all_accesses (rs ++ qs) ≡ all_accesses rs ++ all_accesses qs
@@ -39,54 +37,58 @@ taken_more xs ys more r count k e =
 with_both : (rs qs : List Record) (later : Left) → with_records rs (with_records qs later) ≡ with_records (rs ++ qs) later
 with_both rs qs later = ap (λ (all : List Record). (all, later.1)) (sym (append_assoc rs qs later.0))
 
-skim_by : (n : ℕ) (text : List ℕ) (xs ys more : List Access) (s : Skim) (count : ℕ) (v : Verdict) → Skims n text xs ys s → IsFirstLine (drop s.used text) count v
-    → HasAccesses v more → Skims n text xs (ys ++ more) (record { used = s.used + count; lines = next_line s.lines; taken = s.taken + 1 })
+skim_by : (n : ℕ) (text : List ℕ) (xs ys more : List Access) (run : Run) (count : ℕ) (v : Verdict) → Skims n text xs ys run → IsFirstLine (drop run.used text) count v
+    → HasAccesses v more → Skims n text xs (ys ++ more) (record { used = run.used + count; taken = run.taken + 1 })
 unfolding taken_more taken_both
-skim_by n text xs ys more s count Skipped k line e = absurd e
-skim_by n text xs ys more s count (Bad reason) k line e = absurd e
-skim_by n text xs ys more s count (Found l addr size) k line e =
-    let m = next_line s.lines in
+skim_by n text xs ys more run count Skipped k line e = absurd e
+skim_by n text xs ys more run count (Bad reason) k line e = absurd e
+skim_by n text xs ys more run count (Found l addr size) k line e =
+    let m = next_line (lines_after n run.taken) in
+    let next : m ≡ lines_after n (run.taken + 1) = omega arith in
     let r : Record = record { letter = l; addr = addr; size = size; line = m } in
-    let from = drop s.used text in
-    let after = drop (s.used + count) text in
-    let first : IsFirst from after (Found l addr size) = first_is from after (Found l addr size) (on_from s.used count text line.line) in record {
-      within = omega (arith, line.within, k.within, length-drop s.used text);
-      of = taken_more xs ys more r s.taken k.of e;
+    let from = drop run.used text in
+    let after = drop (run.used + count) text in
+    let first : IsFirst from after (Found l addr size) = first_is from after (Found l addr size) (on_from run.used count text line.line) in record {
+      within = omega (arith, line.within, k.within, length-drop run.used text);
+      of = taken_more xs ys more r run.taken k.of e;
       reads = λ last rest.
           k.reads last rest
-          ∙ ap (with_records k.of.taken) (sym (records_step last s.lines m from rest first.line after (Found l addr size) _ first.parts refl refl first.verdict))
-          ∙ with_both k.of.taken (r ∷ []) (records m (lines_by last (after ++ rest)));
+          ∙ ap (with_records k.of.taken) (sym (records_step last (lines_after n run.taken) m from rest first.line after (Found l addr size) _ first.parts refl refl first.verdict))
+          ∙ with_both k.of.taken (r ∷ []) (records m (lines_by last (after ++ rest)))
+          ∙ ap (λ (j : ℕ). with_records (k.of.taken ++ r ∷ []) (records j (lines_by last (after ++ rest)))) next;
     }
 
-pub skim_more : (n : ℕ) (text : List ℕ) (xs ys more : List Access) (used taken count : ℕ) → Skims n text xs ys (skim_at n used taken)
-    → IsRecordLine (drop used text) count more → Skims n text xs (ys ++ more) (skim_at n (used + count) (taken + 1))
-skim_more n text xs ys more used taken count k h =
-    let line : next_line ((n + taken) % 2 ^ 64) ≡ (n + (taken + 1)) % 2 ^ 64 = omega arith in
-    let P : ℕ → Type 0 = λ m. Skims n text xs (ys ++ more) (record { used = used + count; lines = m; taken = taken + 1 }) in
-    subst P line (skim_by n text xs ys more (skim_at n used taken) count h.verdict k h.line h.accesses_are)
+pub runs_more : (text : List ℕ) (xs ys more : List Access) (run : Run) (count : ℕ) → Runs text xs ys run → IsRecordLine (drop run.used text) count more
+    → Runs text xs (ys ++ more) (record { used = run.used + count; taken = run.taken + 1 })
+runs_more text xs ys more run count k h n small = skim_by n text xs ys more run count h.verdict (k n small) h.line h.accesses_are
 
 -- lines that were read, and more after them
-pub skim_then : (n : ℕ) (text : List ℕ) (xs ys zs : List Access) (s t : Skim) → Skims n text xs ys s → Skims s.lines (drop s.used text) ys zs t
-    → Skims n text xs zs (skims_both s t)
+skim_then : (n : ℕ) (text : List ℕ) (xs ys zs : List Access) (r more : Run) → Skims n text xs ys r → Skims (lines_after n r.taken) (drop r.used text) ys zs more
+    → Skims n text xs zs (runs_both r more)
 unfolding taken_both
-skim_then n text xs ys zs s t k m =
-    let following : drop t.used (drop s.used text) ≡ drop (s.used + t.used) text = drop-drop t.used s.used text in record {
-      within = omega (arith, k.within, m.within, length-drop s.used text);
-      of = taken_both xs ys zs s.taken t.taken k.of m.of;
+skim_then n text xs ys zs r more k m =
+    let following : drop more.used (drop r.used text) ≡ drop (r.used + more.used) text = drop-drop more.used r.used text in
+    let lines : lines_after (lines_after n r.taken) more.taken ≡ lines_after n (r.taken + more.taken) = omega arith in record {
+      within = omega (arith, k.within, m.within, length-drop r.used text);
+      of = taken_both xs ys zs r.taken more.taken k.of m.of;
       reads = λ last rest.
           k.reads last rest ∙ ap (with_records k.of.taken) (m.reads last rest)
-          ∙ with_both k.of.taken m.of.taken (records t.lines (lines_by last (drop t.used (drop s.used text) ++ rest)))
-          ∙ ap (λ (bs : List ℕ). with_records (k.of.taken ++ m.of.taken) (records t.lines (lines_by last (bs ++ rest)))) following;
+          ∙ with_both k.of.taken m.of.taken (records (lines_after (lines_after n r.taken) more.taken) (lines_by last (drop more.used (drop r.used text) ++ rest)))
+          ∙ ap₂ (λ (j : ℕ) (bs : List ℕ). with_records (k.of.taken ++ m.of.taken) (records j (lines_by last (bs ++ rest)))) lines following;
     }
 
+pub runs_then : (text : List ℕ) (xs ys zs : List Access) (r more : Run) → Runs text xs ys r → Runs (drop r.used text) ys zs more → Runs text xs zs (runs_both r more)
+runs_then text xs ys zs r more k m n small = skim_then n text xs ys zs r more (k n small) (m (lines_after n r.taken) (omega arith))
+
 -- a reader that skims what it holds
-pub skimmed : (old new : State) (text : List ℕ) (n : ℕ) (xs ys : List Access) (s : Skim) → old.bad ≡ None → text ≡ old.held → n ≡ old.lines → Skims n text xs ys s
-    → new ≡ record old { lines = s.lines; held = drop s.used old.held } → Skimmed old new xs ys s.taken
-skimmed old new text n xs ys s h a b k e =
+pub skimmed : (old new : State) (text : List ℕ) (n : ℕ) (xs ys : List Access) (run : Run) → old.bad ≡ None → text ≡ old.held → n ≡ old.lines → n < 2 ^ 64 → Runs text xs ys run
+    → new ≡ record old { lines = lines_after n run.taken; held = drop run.used old.held } → Skimmed old new xs ys run.taken
+skimmed old new text n xs ys run h a b small runs e =
+    let k = runs n small in
     let size = ap (λ (u : State). length u.held) e in record {
       of = k.of;
-      reads = λ last rest m. left_passed last old new text n s.used s.lines (with_records k.of.taken) h a b (k.reads last) e rest;
-      no_more = omega (arith, size, length-drop s.used old.held);
+      reads = λ last rest m. left_passed last old new text n run.used (lines_after n run.taken) (with_records k.of.taken) h a b (k.reads last) e rest;
+      no_more = omega (arith, size, length-drop run.used old.held);
       finished = ap (λ (u : State). u.finished) e;
     }
 
@@ -116,16 +118,16 @@ pub takes_none : (n : ℕ) (text : List ℕ) (xs : List Access) → n < 2 ^ 64 �
 unfolding taken_none
 takes_none n text xs h = record {
   of = taken_none xs;
-  reads = let same : n ≡ (n + 0) % 2 ^ 64 = omega arith in ap (λ (k : ℕ). records k (lines_of text)) same;
+  reads = let same : n ≡ lines_after n 0 = omega (arith, h) in ap (λ (k : ℕ). records k (lines_of text)) same;
 }
 
 pub takes_more : (n : ℕ) (old mid new : List ℕ) (xs ys more : List Access) (count : ℕ) (r : Record) → Takes n old mid xs ys count
-    → records ((n + count) % 2 ^ 64) (lines_of mid) ≡ with_record r (records (next_line ((n + count) % 2 ^ 64)) (lines_of new)) → accesses_in r ≡ map pair more
+    → records (lines_after n count) (lines_of mid) ≡ with_record r (records (next_line (lines_after n count)) (lines_of new)) → accesses_in r ≡ map pair more
     → Takes n old new xs (ys ++ more) (count + 1)
 unfolding taken_more taken_both
 takes_more n old mid new xs ys more count r k h e =
-    let m : ℕ = next_line ((n + count) % 2 ^ 64) in
-    let line : m ≡ (n + (count + 1)) % 2 ^ 64 = omega arith in
+    let m : ℕ = next_line (lines_after n count) in
+    let line : m ≡ lines_after n (count + 1) = omega arith in
     record {
       of = taken_more xs ys more r count k.of e;
       reads =

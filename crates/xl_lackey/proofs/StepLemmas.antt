@@ -1,5 +1,5 @@
 -- What the steps of a reader do to what is left for it.
-use Rattle.xl_lackey.proofs.Common.{◌++◌, ◌+◌, ◌-◌, ◌<◌, ◌∙◌, ◌≡◌, ◌≤◌, [], Answers, ap, append-nil, ap₂, arith, Bad, Bool, cases_lt, copy_within, drop, drop-take, drop_all, due, Ends, false, Gives, inl, inr, judge, Left, left, left_by, length, length-append, length-drop, length-take, length-take-le, lines_by, lines_of, List, MayCome, min, next_line, None, Option, parted, Record, records, Refuses, Skipped, Some, State, subst, sym, take, take-append-add, take-append-le, take-take, take_all, true, unless_bad, Verdict, with_record, with_verdict, ℕ}
+use Rattle.xl_lackey.proofs.Common.{◌++◌, ◌+◌, ◌-◌, ◌<◌, ◌∙◌, ◌≡◌, ◌≤◌, [], Answers, ap, append-nil, ap₂, arith, Bad, Bool, cases_lt, drop, drop-take, drop_all, due, Ends, false, Gives, inl, inr, judge, Left, left, left_by, length, length-append, length-drop, length-take, length-take-le, lines_by, lines_of, List, MayCome, min, next_line, None, Option, parted, Record, records, Refuses, Skipped, Some, State, subst, sym, take, take-append-add, take-take, take_all, true, unless_bad, Verdict, with_record, with_verdict, ℕ}
 use Rattle.xl_lackey.proofs.LongLineLemmas.{last_line, let_go, none_ended, parted_take}
 use Rattle.xl_lackey.specs.declared.fault.Fault.{Fault}
 use Rattle.xl_lackey.specs.declared.next.Next.{Next}
@@ -152,15 +152,6 @@ last_bad s t u n why h w none k e f p q = record {
   kept = ap (λ (x : State). x.bad) q;
   finished = ap (λ (x : State). x.finished) q ∙ ap (λ (x : State). x.finished) p;
 }
-
--- bytes moved to the front
-pub shifted : (xs : List ℕ) (i j : ℕ) → i ≤ j → j ≤ length xs → take (j - i) (copy_within xs i j 0) ≡ drop i (take j xs)
-shifted xs i j h k =
-    let n = j - i in
-    let size : length (take n (drop i xs)) ≡ n = length-take-le n (drop i xs) (omega (arith, length-drop i xs)) in
-    let e : i + n ≡ j = omega arith in
-    take-append-le n (take n (drop i xs)) (drop (0 + n) xs) (omega arith) ∙ take-take n n (drop i xs) (omega arith)
-    ∙ sym (drop-take i n xs) ∙ ap (λ (m : ℕ). drop i (take m xs)) e
 
 -- all bytes held are passed
 pub emptied : (s t : State) (used n : ℕ) → used ≡ length s.held → t ≡ record s { lines = n; held = drop used s.held } → t ≡ passed s n

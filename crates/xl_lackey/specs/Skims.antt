@@ -7,7 +7,6 @@ use Rattle.xl_text.specs.Texts.{lines_by, lines_of}
 use Rattle.xl_lackey.specs.declared.skim.Access.{Access}
 use Rattle.xl_lackey.specs.declared.skim.Near.{Near}
 use Rattle.xl_lackey.specs.declared.skim.Run.{Run}
-use Rattle.xl_lackey.specs.declared.skim.Skim.{Skim}
 use Rattle.xl_lackey.specs.declared.line.Verdict.{Verdict}
 use Rattle.xl_lackey.specs.declared.line.Verdict.TheVariants.{Skipped, Found, Bad}
 use Rattle.xl_lackey.specs.Accesses.{accesses_at, places}
@@ -82,24 +81,24 @@ pub record Taken (before after : List Access) (count : ℕ) : Type 0 where
   pub each : all_accesses taken ≡ map pair got
   pub many : length taken ≡ count
 
+-- How many lines ended, modulo 2^64, after `n` lines and one for each record taken.
+abbrev pub lines_after : ℕ → ℕ → ℕ
+lines_after n taken = (n + taken) % 2 ^ 64
+
 -- So far the lines of a text, of which `n` came before it, were read: they are records.
-pub record Skims (n : ℕ) (text : List ℕ) (before after : List Access) (skim : Skim) : Type 0 where
-  pub within : skim.used ≤ length text
-  pub of : Taken before after skim.taken
+pub record Skims (n : ℕ) (text : List ℕ) (before after : List Access) (run : Run) : Type 0 where
+  pub within : run.used ≤ length text
+  pub of : Taken before after run.taken
   pub reads : (last : Bool) (rest : List ℕ) → records n (lines_by last (text ++ rest))
-      ≡ with_records of.taken (records skim.lines (lines_by last (drop skim.used text ++ rest)))
+      ≡ with_records of.taken (records (lines_after n run.taken) (lines_by last (drop run.used text ++ rest)))
 
--- What was read after n lines, each of which was taken.
-abbrev pub skim_at : ℕ → ℕ → ℕ → Skim
-skim_at n used taken = record { used = used; lines = (n + taken) % 2 ^ 64; taken = taken }
-
--- The same lines, however many came before the text.
+-- The same, however many lines came before the text.
 abbrev pub Runs : List ℕ → List Access → List Access → Run → Type 0
-Runs text before after run = (n : ℕ) → n < 2 ^ 64 → Skims n text before after (skim_at n run.used run.taken)
+Runs text before after run = (n : ℕ) → n < 2 ^ 64 → Skims n text before after run
 
 -- Lines that were read, and more after them.
-abbrev pub skims_both : Skim → Skim → Skim
-skims_both s more = record { used = s.used + more.used; lines = more.lines; taken = s.taken + more.taken }
+abbrev pub runs_both : Run → Run → Run
+runs_both r more = record { used = r.used + more.used; taken = r.taken + more.taken }
 
 -- `count` records were the first of what was left, and the rest of it is left.
 pub record Skimmed (old new : State) (before after : List Access) (count : ℕ) : Type 0 where
@@ -113,4 +112,4 @@ pub record Skimmed (old new : State) (before after : List Access) (count : ℕ) 
 -- lines are left.
 pub record Takes (n : ℕ) (old new : List ℕ) (before after : List Access) (count : ℕ) : Type 0 where
   pub of : Taken before after count
-  pub reads : records n (lines_of old) ≡ with_records of.taken (records ((n + count) % 2 ^ 64) (lines_of new))
+  pub reads : records n (lines_of old) ≡ with_records of.taken (records (lines_after n count) (lines_of new))

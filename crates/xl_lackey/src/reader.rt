@@ -82,21 +82,6 @@ impl Reader {
         ROOM - (self.end - self.start)
     }
 
-    /// Takes the next bytes of the trace.
-    pub fn feed(&mut self, piece: &[u8])
-        requires room { length piece.now + length self.old.held ≤ 65536 }
-        requires unfinished { self.old.finished ≡ false }
-        ensures held { self.new ≡ record self.old { held = self.old.held ++ piece.now } }
-        ensures reads { (last : Bool) (rest : List ℕ)
-            → left_by last self.new rest ≡ left_by last self.old (piece.now ++ rest) }
-    {
-        let held = self.end - self.start;
-        shift(self.buf.as_mut_slice(), self.start, self.end);
-        put_following(self.buf.as_mut_slice(), held, piece);
-        self.start = 0;
-        self.end = held + piece.len();
-    }
-
     /// Takes the next bytes of the trace: `count` bytes in `piece`, after as many places as bytes
     /// are held. The reader takes that buffer and leaves its own for it, so that only what is held
     /// is moved.
@@ -191,10 +176,11 @@ impl Reader {
         let None = self.bad_line() else {
             return 0;
         };
+        let lines = self.lines;
         let text = &self.buf.as_slice()[self.start..self.end];
-        let skim = skim_lines(text, self.lines, into, most, &mut self.prefixes);
-        self.pass(skim.used, skim.lines);
-        skim.taken
+        let run = skim_lines(text, into, most, &mut self.prefixes);
+        self.pass(run.used, lines.wrapping_add(run.taken));
+        run.taken
     }
 
     /// Where no newline is held: returns that more bytes are needed, or judges the last line.
@@ -288,15 +274,6 @@ impl Reader {
         self.bad = Some(Fault { line, reason });
         Next::BadLine { line, reason }
     }
-}
-
-/// Moves the bytes from `start` to `end` to the front.
-fn shift(buf: &mut [u8], start: usize, end: usize)
-    requires order { start ≤ end }
-    requires within { end ≤ length buf.old }
-    ensures { take (end - start) buf.new ≡ drop start (take end buf.old) }
-{
-    buf.copy_within(start..end, 0);
 }
 
 /// Writes bytes after the first `held`, over those that were there.

@@ -5,7 +5,7 @@ ghost use Rattle.xl_lackey.specs.Usual.{judged_line};
 ghost use Rattle.xl_lackey.specs.Scans.{IsFirstLine, Scans};
 
 use crate::line::{Verdict, judge};
-use crate::usual::{NEAR, near_line, usual_line};
+use crate::usual::usual_line;
 use memchr::memchr;
 
 /// How far the lines of a text were read: up to its first line that isn't skipped, or over all that
@@ -47,29 +47,16 @@ pub(crate) fn read_lines(text: &[u8], before: u64) -> Scan
 
 /// The first line from a place on that a newline ends: how many bytes it has with the newline, and
 /// what it is.
+#[inline(never)]
 fn next_line(text: &[u8], from: usize) -> Option<(usize, Verdict)>
     requires { from ≤ length text.now }
     ensures some { IfSome result (λ r. IsFirstLine (drop from text.now) r.0 r.1) }
     ensures none { IfNone result (judged_line (drop from text.now) ≡ None) }
 {
     let rest = &text[from..];
-    if rest.len() >= NEAR {
-        if let Some(found) = near_line(rest) {
-            return Some(found);
-        }
-    }
-    far_line(rest)
-}
-
-/// General reader, kept out of line.
-#[inline(never)]
-fn far_line(text: &[u8]) -> Option<(usize, Verdict)>
-    ensures some { IfSome result (λ r. IsFirstLine text.now r.0 r.1) }
-    ensures none { IfNone result (judged_line text.now ≡ None) }
-{
-    match usual_line(text) {
+    match usual_line(rest) {
         Some(found) => Some(found),
-        None => any_line(text),
+        None => any_line(rest),
     }
 }
 

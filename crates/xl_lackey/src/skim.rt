@@ -1,7 +1,7 @@
 //! Bulk path: single-page records in Lackey's own form.
 
 ghost use Rattle.std.specs.Prelude.{◌≡◌, ◌+◌, ◌-◌, ◌^◌, ◌<◌, ◌≤◌, ◌++◌, length, take, drop, true, IfSome};
-ghost use Rattle.xl_lackey.specs.Skims.{batch_size, read_of, accesses_near, skims_both, HasRoom, IsCounted, IsRecordLine, IsSure, Runs, Skims};
+ghost use Rattle.xl_lackey.specs.Skims.{batch_size, read_of, accesses_near, runs_both, HasRoom, IsCounted, IsRecordLine, IsSure, Runs};
 
 use crate::batch::{Batch, ROOM, put};
 use crate::prefixes::PrefixCache;
@@ -20,33 +20,6 @@ impl Default for Access {
         Access {
             va: 0,
             kind: Kind::Fetch,
-        }
-    }
-}
-
-/// How far the lines of a text were read.
-#[derive(Clone, Copy)]
-pub(crate) struct Skim {
-    /// The bytes of the lines that were read, with their newlines.
-    pub(crate) used: usize,
-    /// The lines that ended so far, modulo 2^64.
-    pub(crate) lines: u64,
-    /// The records that were taken.
-    pub(crate) taken: u64,
-}
-
-impl Skim {
-    /// Lines that were read, and more after them.
-    #[inline(always)]
-    fn then(self, more: Skim) -> Skim
-        requires used { self.used + more.used < 2 ^ 64 }
-        requires taken { self.taken + more.taken < 2 ^ 64 }
-        ensures { result ≡ skims_both self more }
-    {
-        Skim {
-            used: self.used + more.used,
-            lines: more.lines,
-            taken: self.taken + more.taken,
         }
     }
 }
@@ -115,11 +88,26 @@ fn sure_records(rest: usize, into: &Batch, most: u64) -> u64
     (room.min(rest / NEAR) as u64).min(most)
 }
 
-/// How many bytes of a text were read, and how many records these are.
+/// How many bytes of a text were read, and how many records these are, a line each.
 #[derive(Clone, Copy)]
 pub(crate) struct Run {
     pub(crate) used: usize,
     pub(crate) taken: u64,
+}
+
+impl Run {
+    /// Lines that were read, and more after them.
+    #[inline(always)]
+    fn then(self, more: Run) -> Run
+        requires used { self.used + more.used < 2 ^ 64 }
+        requires taken { self.taken + more.taken < 2 ^ 64 }
+        ensures { result ≡ runs_both self more }
+    {
+        Run {
+            used: self.used + more.used,
+            taken: self.taken + more.taken,
+        }
+    }
 }
 
 /// The same, with the number of accesses after it.
@@ -225,67 +213,40 @@ pub(crate) fn skim_plain(text: &[u8], slots: &mut [Access], len: usize, most: u6
 /// Reads the first lines of a text, `most` at most: those whose pages are kept, and some after
 /// them. The page of the first of these is kept from then on.
 #[inline(always)]
-fn skim_some(
-    text: &[u8],
-    before: u64,
-    into: &mut Batch,
-    most: u64,
-    prefixes: &mut PrefixCache,
-) -> Skim
-    ensures skims { Skims before text.now into.old.items into.new.items result }
+fn skim_some(text: &[u8], into: &mut Batch, most: u64, prefixes: &mut PrefixCache) -> Run
+    ensures runs { Runs text.now into.old.items into.new.items result }
     ensures few { result.taken ≤ most }
 {
     let sure = sure_records(text.len(), into, most);
-    let run = into.skim_kept(text, sure, prefixes);
-    let kept = Skim {
-        used: run.used,
-        lines: before.wrapping_add(run.taken),
-        taken: run.taken,
-    };
-    if run.taken == sure {
+    let kept = into.skim_kept(text, sure, prefixes);
+    if kept.taken == sure {
         return kept;
     }
     let rest = &text[kept.used..];
     prefixes.keep(rest);
-    let plain = prefixes.plain_lines(run.taken).min(most - run.taken);
-    let new = into.skim_plain(rest, plain);
-    kept.then(Skim {
-        used: new.used,
-        lines: kept.lines.wrapping_add(new.taken),
-        taken: new.taken,
-    })
+    let plain = prefixes.plain_lines(kept.taken).min(most - kept.taken);
+    kept.then(into.skim_plain(rest, plain))
 }
 
-/// Reads up to `most` single-page records of a text, after `before` lines; stops at the first other
-/// line, or where there is no room.
+/// Reads up to `most` single-page records of a text; stops at the first other line, or where there
+/// is no room.
 #[inline(always)]
 pub(crate) fn skim_lines(
     text: &[u8],
-    before: u64,
     into: &mut Batch,
     most: u64,
     prefixes: &mut PrefixCache,
-) -> Skim
-    ensures skims { Skims before text.now into.old.items into.new.items result }
+) -> Run
+    ensures runs { Runs text.now into.old.items into.new.items result }
     ensures few { result.taken ≤ most }
 {
-    let mut skim = Skim {
-        used: 0,
-        lines: before,
-        taken: 0,
-    };
+    let mut run = Run { used: 0, taken: 0 };
     'skim: loop {
-        let more = skim_some(
-            &text[skim.used..],
-            skim.lines,
-            into,
-            most - skim.taken,
-            prefixes,
-        );
-        skim = skim.then(more);
+        let more = skim_some(&text[run.used..], into, most - run.taken, prefixes);
+        run = run.then(more);
         if more.taken == 0 {
             break;
         }
     }
-    skim
+    run
 }

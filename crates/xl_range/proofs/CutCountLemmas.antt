@@ -1,5 +1,5 @@
 -- For the table of ranges: how many ranges are left where a leaf is cut out of one, and where a range is put among them.
-use Rattle.xl_range.proofs.Common.{◌+◌, ◌==◌, ◌∷◌, ◌≡◌, ◌≤◌, [], ap, arith, before_on, cond, cut, false, following_on, In, inl, inr, length, List, nat_tests, Order, pages_before, pages_following, part_following, pieces, Range, range_key, refl, some_if, suc, true, zero, ℕ}
+use Rattle.xl_range.proofs.Common.{◌+◌, ◌==◌, ◌∷◌, ◌≡◌, [], ap, arith, before_on, cond, cut, false, following_on, In, inl, inr, length, List, nat_tests, Order, pages_before, pages_following, part_following, pieces, Range, range_key, refl, some_if, suc, true, zero, ℕ}
 
 pieces-count : (n m : ℕ) (r x : Range) (rs : List Range) → length (before_on n r (following_on m x rs)) ≡ length rs + (some_if n + some_if m)
 pieces-count zero zero r x rs = omega arith

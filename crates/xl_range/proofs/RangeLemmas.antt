@@ -27,9 +27,6 @@ item_within r fit =
     let a = fit.pages_in in let b = fit.some in let c = fit.space_in in
     record { space_in = omega arith; pages_in = omega arith }
 
-pub none_within : AllWithin []
-none_within i m = absurd m
-
 pub touched_within : (p : RangeItem → Bool) (items new : List RangeItem) → AllWithin items → new ≡ touched p items → AllWithin new
 touched_within p items new all e = λ i m. all i (touched-In p i items (subst (λ (xs : List RangeItem). In i xs) e m))
 

@@ -39,15 +39,15 @@ value_there [] k n d l = absurd (omega arith)
 value_there (x ∷ xs) zero n d l = refl
 value_there (x ∷ xs) (suc k) n d l = value_there xs k n d (omega arith)
 
--- eight places are those of each first array
+-- every second place is that of a first array
 same_place : (first page other : ℕ) → page % 8 ≡ other % 8 → page_place first page ≡ page_place first other
 same_place first page other e = omega (arith, e)
 
 other_place : (first page other : ℕ) → page % 8 ≢ other % 8 → page_place first page ≢ page_place first other
 other_place first page other d e = d (omega (arith, e))
 
-other_first : (first page of_other other : ℕ) → (of_other ≡ first → ⊥) → page_place of_other other ≢ page_place first page
-other_first first page of_other other d e = d (omega (arith, e))
+other_first : (first page of_other other : ℕ) → first < 2 → of_other < 2 → (of_other ≡ first → ⊥) → page_place of_other other ≢ page_place first page
+other_first first page of_other other few fewer d e = d (omega (arith, few, fewer, e))
 
 -- with the key and the word of a page at its place, that page and those elsewhere are known
 module _ (first : ℕ) (n : MruPages) (s : Lookup) (word : ℕ) where
@@ -70,9 +70,9 @@ module _ (first : ℕ) (n : MruPages) (s : Lookup) (word : ℕ) where
           let w : get_or (set n.words (page_place first s.page) word) (page_place first page) 0 ≡ get_or n.words (page_place first page) 0 = get_or-set_other n.words (page_place first s.page) (page_place first page) word 0 d in
           rw w (known space page (subst (λ (z : ℕ). IsKey z space page) k key))
 
-  pub kept_others : StaysKnown first n kept
-  kept_others other arrays apart known space page key =
-      let d = other_first first s.page other page apart in
+  pub kept_others : first < 2 → StaysKnown first n kept
+  kept_others few other arrays fewer apart known space page key =
+      let d = other_first first s.page other page few fewer apart in
       let k : get_or (set n.keys (page_place first s.page) s.tag) (page_place other page) no_key ≡ get_or n.keys (page_place other page) no_key = get_or-set_other n.keys (page_place first s.page) (page_place other page) s.tag no_key d in
       let w : get_or (set n.words (page_place first s.page) word) (page_place other page) 0 ≡ get_or n.words (page_place other page) 0 = get_or-set_other n.words (page_place first s.page) (page_place other page) word 0 d in
       rw w (known space page (subst (λ (z : ℕ). IsKey z space page) k key))
@@ -94,8 +94,8 @@ module _ (first : ℕ) (n new : MruPages) (block : ℕ) (keys : new.keys ≡ set
           ap (λ (z : List ℕ). get_or z (page_place first page) no_key) keys ∙ get_or-set_other n.keys (page_place first block) (page_place first page) no_key no_key (other_place first page block d) in
           rw words (stay space page (get_or n.words (page_place first page) 0) d (known space page (subst (λ (z : ℕ). IsKey z space page) k key)))
 
-  pub forgot_others : StaysKnown first n new
-  forgot_others other arrays apart known space page key =
+  pub forgot_others : first < 2 → StaysKnown first n new
+  forgot_others few other arrays fewer apart known space page key =
       let k : get_or new.keys (page_place other page) no_key ≡ get_or n.keys (page_place other page) no_key =
-      ap (λ (z : List ℕ). get_or z (page_place other page) no_key) keys ∙ get_or-set_other n.keys (page_place first block) (page_place other page) no_key no_key (other_first first block other page apart) in
+      ap (λ (z : List ℕ). get_or z (page_place other page) no_key) keys ∙ get_or-set_other n.keys (page_place first block) (page_place other page) no_key no_key (other_first first block other page few fewer apart) in
       rw words (known space page (subst (λ (z : ℕ). IsKey z space page) k key))

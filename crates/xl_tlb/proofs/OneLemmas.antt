@@ -1,5 +1,5 @@
 -- One array that serves all accesses: a look in it, as a look at all.
-use Rattle.xl_tlb.proofs.Common.{◌<◌, ◌^◌, ◌∷◌, ◌≡◌, ◌≤◌, [], all_first, Alone, alone_at, alone_in, ap, arith, AtOne, FirstLacks, front_touch, HasEights, hit_front, IsAloneFill, IsAloneLook, IsFill, IsFront, IsFrontHit, IsKept, IsKnownAnswer, IsKnownWord, IsOne, IsTlb, IsWord, Kind, length, List, Lookup, map, None, one_more_at, plus, refl, set_number, spec_of, tlb_of, TlbArray, ℕ}
+use Rattle.xl_tlb.proofs.Common.{◌<◌, ◌^◌, ◌∷◌, ◌≡◌, ◌≤◌, [], Alone, alone_at, alone_in, ap, arith, AtOne, false, FirstLacks, front_touch, HasEights, hit_front, IsAloneFill, IsAloneLook, IsFill, IsFront, IsFrontHit, IsKept, IsKnownAnswer, IsKnownWord, IsOne, IsTlb, IsWord, Kind, length, List, Lookup, map, None, one_more_at, plus, refl, set_number, spec_of, tlb_of, TlbArray, ℕ}
 use Rattle.xl_tlb.proofs.StayLemmas.{fill_others, kept_at, OtherSets, touch_others}
 use Rattle.xl_tlb.proofs.StepLemmas.{IsLookAt, IsSeen, large_spec, large_word, last_filled, look_hit, look_next, look_none, seen_hit, seen_none, seen_word, touch_spec}
 use Rattle.xl_tlb.proofs.TlbLemmas.{kept_state, serves_all}
@@ -11,12 +11,12 @@ some : (ns : List ℕ) → 1 ≤ length ns → (a : ℕ) × (rest : List ℕ) ×
 some [] e = absurd (omega (arith, e))
 some (a ∷ rest) e = (a, rest, refl)
 
-one_kept : (k : Kind) (space page word : ℕ) (a new : TlbArray) → IsFrontHit space page word new → OtherSets (set_number a.spec order.K4 page) a new → IsKept all_first k space page word (a ∷ []) (new ∷ [])
-one_kept k space page word a new hit o = kept_at all_first k space page word a new (a ∷ []) (new ∷ []) refl refl (λ j n. absurd (n refl)) hit o
+one_kept : (k : Kind) (space page word : ℕ) (a new : TlbArray) → IsFrontHit space page word new → OtherSets (set_number a.spec order.K4 page) a new → IsKept false k space page word (a ∷ []) (new ∷ [])
+one_kept k space page word a new hit o = kept_at false k space page word a new (a ∷ []) (new ∷ []) refl refl (λ j n. absurd (n refl)) hit o
 
 module _ (k : Kind) (space page word : ℕ) (hits misses : List ℕ) (fills : ℕ) (few : 1 ≤ length hits) (fewer : 1 ≤ length misses) where
   one_word : (arrays new : List TlbArray) → AtOne (IsAloneLook space page (answered.Word word)) arrays new → IsOne (map spec_of arrays) → fills < 2 ^ 64
-      → IsSeen k space page word fills fills arrays new hits (one_more_at 0 hits) misses misses × IsKept all_first k space page word arrays new
+      → IsSeen k space page word fills fills arrays new hits (one_more_at 0 hits) misses misses × IsKept false k space page word arrays new
   one_word _ _ (Alone a new is) one small =
       let x = some hits few in
       let y = some misses fewer in
@@ -42,10 +42,10 @@ one_unknown space page _ _ (Alone a new is) = (is.0, rw is.1 refl)
 
 pub one_answer : (answer : Answered) (k : Kind) (space page : ℕ) (arrays new : List TlbArray) (hits misses : List ℕ) (fills : ℕ) → 1 ≤ length hits → 1 ≤ length misses → fills < 2 ^ 64
     → IsOne (map spec_of arrays) → AtOne (IsAloneLook space page answer) arrays new
-    → IsKnownAnswer all_first k space page answer (tlb_of arrays hits misses fills) (alone_in answer (tlb_of new hits misses fills))
+    → IsKnownAnswer false k space page answer (tlb_of arrays hits misses fills) (alone_in answer (tlb_of new hits misses fills))
 one_answer (answered.Word word) k space page arrays new hits misses fills few fewer small one is =
     let s = one_word k space page word hits misses fills few fewer arrays new is one small in
-    seen_word all_first k space page word fills fills arrays new hits (one_more_at 0 hits) misses misses s.0 s.1
+    seen_word false k space page word fills fills arrays new hits (one_more_at 0 hits) misses misses s.0 s.1
 one_answer (answered.Large word) k space page arrays new hits misses fills few fewer small one is = one_large k space page word hits misses fills few fewer arrays new is one small
 one_answer answered.Nowhere k space page arrays new hits misses fills few fewer small one is =
     seen_none k space page fills arrays new hits hits misses (one_more_at 0 misses) (one_nowhere k space page 0 hits misses fills few fewer arrays new is one)
@@ -54,7 +54,7 @@ one_answer answered.Unknown k space page arrays new hits misses fills few fewer 
     (u.0, ap (λ (z : List TlbArray). tlb_of z hits misses fills) u.1)
 
 pub one_filled : (q : Lookup) (word : ℕ) (k : Kind) (arrays new : List TlbArray) → AtOne (IsAloneFill q.space q.page word) arrays new → IsOne (map spec_of arrays)
-    → IsFill k q word 1 arrays new × IsKept all_first k q.space q.page word arrays new
+    → IsFill k q word 1 arrays new × IsKept false k q.space q.page word arrays new
 one_filled q word k _ _ (Alone a new is) one = (
   last_filled q word k a new (serves_all k a one.0) one.1 is.first,
   one_kept k q.space q.page word a new is.front (fill_others q.space q.page word a new is.first),
@@ -68,7 +68,7 @@ front_look space page word (a ∷ s ∷ rest) one front = absurd one
 
 pub one_front : (k : Kind) (space page word : ℕ) (arrays : List TlbArray) (hits misses : List ℕ) (fills : ℕ) → 1 ≤ length hits → 1 ≤ length misses → fills < 2 ^ 64
     → IsOne (map spec_of arrays) → IsFront space page word (alone_at 0 arrays)
-    → IsKnownWord all_first k space page word (tlb_of arrays hits misses fills) (tlb_of arrays (one_more_at 0 hits) misses fills)
+    → IsKnownWord false k space page word (tlb_of arrays hits misses fills) (tlb_of arrays (one_more_at 0 hits) misses fills)
 one_front k space page word arrays hits misses fills few fewer small one front =
     one_answer (answered.Word word) k space page arrays arrays hits misses fills few fewer small one (front_look space page word arrays one front)
 

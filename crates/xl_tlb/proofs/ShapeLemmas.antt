@@ -1,14 +1,12 @@
 -- What is known of pages is kept; and a page that is known is answered by the leaf in front of a first array, which is touched, and nothing moves.
-use Rattle.xl_tlb.proofs.Common.{◌<◌, ◌==◌, ◌≡◌, [], all_first, alone_at, AreJoint, AreSplit, arith, Bool, false, first_in, first_of_kind, Fits, hit_at, IsFront, IsKept, IsKnown, IsOne, IsState, IsWord, Kind, Knows, List, map, MruPages, nat_tests, numbers_of, refl, spec_of, StaysKnown, subst, sym, TlbArray, TlbSpec, TlbState, true, ℕ}
-use Rattle.xl_tlb.proofs.JointLemmas.{joint_front}
+use Rattle.xl_tlb.proofs.Common.{◌<◌, ◌==◌, ◌≡◌, [], alone_at, ArePaired, arith, Bool, false, first_in, Fits, fits_in, hit_at, IsFront, IsKept, IsKnown, IsOne, IsState, IsWord, Kind, Knows, List, map, MruPages, nat_tests, numbers_of, refl, spec_of, split_of, StaysKnown, subst, sym, TlbArray, TlbSpec, TlbState, true, ℕ}
 use Rattle.xl_tlb.proofs.OneLemmas.{one_front}
-use Rattle.xl_tlb.proofs.SplitLemmas.{split_front}
+use Rattle.xl_tlb.proofs.PairLemmas.{pair_front}
 use Rattle.xl_tlb.proofs.StepLemmas.{word_seen}
-use Rattle.xl_tlb.specs.Fits.{fits_in, split_of}
 use Rattle.xl_tlb.specs.declared.known.KnownPages.{KnownPages}
 use Rattle.xl_tlb.specs.declared.shapes.AnyShape.{AnyShape}
-use Rattle.xl_tlb.specs.declared.shapes.AnyShape.TheVariants as shape
 use Rattle.xl_model.specs.declared.address.Kind.TheVariants as kind
+use Rattle.xl_tlb.specs.declared.shapes.AnyShape.TheVariants as shape
 
 -- there are two first arrays at most
 pub few_firsts : (split : Bool) (k : Kind) → first_in split k < 2
@@ -30,13 +28,13 @@ forgot_fits split Shape p new old after specs fits known = record { shape = rw s
 pub shape_forgot : (s : AnyShape) (p new : KnownPages) (old after : List TlbArray)
     → ((split : Bool) (x y : List TlbArray) → IsKnown split p x → map spec_of y ≡ map spec_of x → IsKnown split new y)
     → map spec_of after ≡ map spec_of old → fits_in s p old → fits_in s new after
-shape_forgot shape.Joint p new old after forgot specs fits = forgot_fits false AreJoint p new old after specs fits (forgot false old after fits.known specs)
-shape_forgot shape.Split p new old after forgot specs fits = forgot_fits true AreSplit p new old after specs fits (forgot true old after fits.known specs)
+shape_forgot shape.Joint p new old after forgot specs fits = forgot_fits false (ArePaired false) p new old after specs fits (forgot false old after fits.known specs)
+shape_forgot shape.Split p new old after forgot specs fits = forgot_fits true (ArePaired true) p new old after specs fits (forgot true old after fits.known specs)
 shape_forgot shape.One p new old after forgot specs fits = forgot_fits false IsOne p new old after specs fits (forgot false old after fits.known specs)
 shape_forgot shape.InTurn p new old after forgot specs fits = forgot false [] [] fits refl
 
 -- what is known of the first array of a kind changes, and of others it stays
-pub all_known : (split : Bool) (k : Kind) (space page word : ℕ) (p new : MruPages) (old after : List TlbArray) → IsKept (first_in split) k space page word old after
+pub all_known : (split : Bool) (k : Kind) (space page word : ℕ) (p new : MruPages) (old after : List TlbArray) → IsKept split k space page word old after
     → Knows (first_in split k) new (alone_at (first_in split k) after)
     → StaysKnown (first_in split k) p new → ((j : Kind) → Knows (first_in split j) p (alone_at (first_in split j) old))
     → (j : Kind) → Knows (first_in split j) new (alone_at (first_in split j) after)
@@ -48,21 +46,18 @@ all_known split k space page word p new old after kept one others knows j = go (
         subst (λ (i : ℕ). Knows i new (alone_at i after)) (sym e) one
     go false t =
         let d : first_in split j ≡ first_in split k → ⊥ = λ e. absurd (grind (arith, nat_tests)) in
-        subst (Knows (first_in split j) new) (sym (kept.others j d)) (others (first_in split j) (alone_at (first_in split j) old) d (knows j))
+        subst (Knows (first_in split j) new) (sym (kept.others j d)) (others (first_in split j) (alone_at (first_in split j) old) (few_firsts split j) d (knows j))
 
 module _ (k : Kind) (space page word : ℕ) (t : TlbState) (is : IsState t) where
-  joint_recalled : AreJoint (map spec_of t.arrays) → IsFront space page word (alone_at 0 t.arrays) → IsWord k space page word t (hit_at 0 t)
-  joint_recalled joint front = word_seen all_first k space page word t (hit_at 0 t) (joint_front k space page word t.arrays t.hits t.misses t.fills (omega (arith, is.hits)) (omega (arith, is.misses)) is.fills joint is.rising front)
+  pair_recalled : (split : Bool) → ArePaired split (map spec_of t.arrays) → IsFront space page word (alone_at (first_in split k) t.arrays) → IsWord k space page word t (hit_at (first_in split k) t)
+  pair_recalled split paired front =
+      word_seen split k space page word t (hit_at (first_in split k) t) (pair_front split k space page word t.arrays t.hits t.misses t.fills (omega (arith, is.hits)) (omega (arith, is.misses)) is.fills paired is.rising front)
 
   one_recalled : IsOne (map spec_of t.arrays) → IsFront space page word (alone_at 0 t.arrays) → IsWord k space page word t (hit_at 0 t)
-  one_recalled one front = word_seen all_first k space page word t (hit_at 0 t) (one_front k space page word t.arrays t.hits t.misses t.fills (omega (arith, is.hits)) (omega (arith, is.misses)) is.fills one front)
-
-  split_recalled : AreSplit (map spec_of t.arrays) → IsFront space page word (alone_at (first_of_kind k) t.arrays) → IsWord k space page word t (hit_at (first_of_kind k) t)
-  split_recalled split front =
-      word_seen first_of_kind k space page word t (hit_at (first_of_kind k) t) (split_front k space page word t.arrays t.hits t.misses t.fills (omega (arith, is.hits)) (omega (arith, is.misses)) is.fills split is.rising front)
+  one_recalled one front = word_seen false k space page word t (hit_at 0 t) (one_front k space page word t.arrays t.hits t.misses t.fills (omega (arith, is.hits)) (omega (arith, is.misses)) is.fills one front)
 
   pub recalled : (s : AnyShape) (p : KnownPages) → fits_in s p t.arrays → ((arrays : List TlbArray) → Knows (first_in (split_of s) k) p.newest arrays → IsFront space page word arrays) → IsWord k space page word t (hit_at (first_in (split_of s) k) t)
-  recalled shape.Joint p fits front = joint_recalled fits.shape (front (alone_at 0 t.arrays) (fits.known.knows k))
-  recalled shape.Split p fits front = split_recalled fits.shape (front (alone_at (first_of_kind k) t.arrays) (fits.known.knows k))
+  recalled shape.Joint p fits front = pair_recalled false fits.shape (front (alone_at 0 t.arrays) (fits.known.knows k))
+  recalled shape.Split p fits front = pair_recalled true fits.shape (front (alone_at (first_in true k) t.arrays) (fits.known.knows k))
   recalled shape.One p fits front = one_recalled fits.shape (front (alone_at 0 t.arrays) (fits.known.knows k))
   recalled shape.InTurn p fits front = absurd (front [] (fits.knows k))

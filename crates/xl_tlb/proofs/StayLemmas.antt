@@ -1,5 +1,5 @@
 -- Leaves in front that stay there where one set of the first array changes.
-use Rattle.xl_tlb.proofs.Common.{◌%◌, ◌/◌, ◌∙◌, ◌∷◌, ◌≡◌, ◌≢◌, [], alone_at, Answer, answer_of, ap, arith, array_filled, array_touched, Bool, covers_as, false, filled_where, find, FrontsStay, get_or, get_or-set_other, IsFront, IsFrontHit, IsKept, IsTouch, Kind, Leaf, leaf_replied, List, looked_arrays, None, Option, refl, set_at, set_number, small_leaf, Some, subst, sym, takes_order, tlb_looked, TlbArray, TlbSpec, TlbState, true, where_taken, with_set, ℕ}
+use Rattle.xl_tlb.proofs.Common.{◌%◌, ◌/◌, ◌∙◌, ◌∷◌, ◌≡◌, ◌≢◌, [], alone_at, Answer, answer_of, ap, arith, array_filled, array_touched, Bool, covers_as, false, filled_where, find, first_in, FrontsStay, get_or, get_or-set_other, IsFront, IsFrontHit, IsKept, IsTouch, Kind, Leaf, leaf_replied, List, looked_arrays, None, Option, refl, set_at, set_number, small_leaf, Some, subst, sym, takes_order, tlb_looked, TlbArray, TlbSpec, TlbState, true, where_taken, with_set, ℕ}
 use Rattle.std.proofs.Math.Nat.{mod-mod_of_dvd}
 use Rattle.std.proofs.lemmas.Nat.Gcd.{dvd_of_mod-eq-zero}
 use Rattle.xl_array.proofs.FillLemmas.{hit_set}
@@ -71,10 +71,10 @@ module _ (space page word : ℕ) where
       (subst (λ (n : ℕ). OtherSets n a (array_filled (small_leaf space page word) a)) (sym (hit_set a.spec page order.K4)) (filled_others (small_leaf space page word) a))
 
 -- what is known of the first array of a kind after a leaf came to its front
-pub kept_at : (first : Kind → ℕ) (k : Kind) (space page word : ℕ) (a new : TlbArray) (old after : List TlbArray) → alone_at (first k) old ≡ a ∷ [] → alone_at (first k) after ≡ new ∷ []
-    → ((j : Kind) → (first j ≡ first k → ⊥) → alone_at (first j) after ≡ alone_at (first j) old) → IsFrontHit space page word new → OtherSets (set_number a.spec order.K4 page) a new
-    → IsKept first k space page word old after
-kept_at first k space page word a new old after e f others hit o = record {
+pub kept_at : (split : Bool) (k : Kind) (space page word : ℕ) (a new : TlbArray) (old after : List TlbArray) → alone_at (first_in split k) old ≡ a ∷ [] → alone_at (first_in split k) after ≡ new ∷ []
+    → ((j : Kind) → (first_in split j ≡ first_in split k → ⊥) → alone_at (first_in split j) after ≡ alone_at (first_in split j) old) → IsFrontHit space page word new → OtherSets (set_number a.spec order.K4 page) a new
+    → IsKept split k space page word old after
+kept_at split k space page word a new old after e f others hit o = record {
   front = subst (IsFront space page word) (sym f) hit;
   stays = λ eights. rw (e, f) (alone_stays page a new (rw e at eights) o);
   others = others;

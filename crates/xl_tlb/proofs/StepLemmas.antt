@@ -191,9 +191,9 @@ pub leaf_of_replied : (k : Kind) (o : Option Answer) (arrays : List TlbArray) (f
 leaf_of_replied k None arrays f e = cc
 leaf_of_replied k (Some x) arrays f e = cc
 
-pub seen_word : (first : Kind → ℕ) (k : Kind) (space page word fills n : ℕ) (arrays new : List TlbArray) (hits h misses m : List ℕ) → IsSeen k space page word fills n arrays new hits h misses m → IsKept first k space page word arrays new
-    → IsKnownWord first k space page word (tlb_of arrays hits misses fills) (tlb_of new h m n)
-seen_word first k space page word fills n arrays new hits h misses m is kept = record {
+pub seen_word : (split : Bool) (k : Kind) (space page word fills n : ℕ) (arrays new : List TlbArray) (hits h misses m : List ℕ) → IsSeen k space page word fills n arrays new hits h misses m → IsKept split k space page word arrays new
+    → IsKnownWord split k space page word (tlb_of arrays hits misses fills) (tlb_of new h m n)
+seen_word split k space page word fills n arrays new hits h misses m is kept = record {
   found = ap (λ (x : Leaf). Some x) (sym is.leaf) ∙ leaf_of_replied k (answer_of k arrays space page) arrays is.found is.look.replies;
   after = ap (λ (x : ℕ). tlb_of new h m x) is.filled ∙ look_after k arrays new hits misses h m fills space page is.look.leaves is.look.hit is.look.missed is.found is.look.replies;
   kept = kept;
@@ -235,8 +235,8 @@ pub last_filled : (q : Lookup) (word : ℕ) (k : Kind) (s after : TlbArray) → 
 last_filled q word k s after served takes e = filled_first k q word 0 s after [] [] served takes e (record { count = refl; filled = refl })
 
 -- which is a look
-pub word_seen : (first : Kind → ℕ) (k : Kind) (space page word : ℕ) (old new : TlbState) → IsKnownWord first k space page word old new → IsWord k space page word old new
-word_seen first k space page word old new is = record { leaf = small_leaf space page word; found = is.found; says = small_says space page word; after = is.after }
+pub word_seen : (split : Bool) (k : Kind) (space page word : ℕ) (old new : TlbState) → IsKnownWord split k space page word old new → IsWord k space page word old new
+word_seen split k space page word old new is = record { leaf = small_leaf space page word; found = is.found; says = small_says space page word; after = is.after }
 
 pub looked_specs : (k : Kind) (space page : ℕ) (old new : TlbState) → new ≡ tlb_looked k space page old → map spec_of new.arrays ≡ map spec_of old.arrays
 unfolding tlb_looked

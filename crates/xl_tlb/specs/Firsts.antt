@@ -9,20 +9,12 @@ use Rattle.xl_tlb.specs.Fronts.{FrontsStay, HasEights, IsFront}
 use Rattle.xl_tlb.specs.Known.{Knows}
 use Rattle.xl_tlb.specs.Tlbs.{spec_of}
 
--- The number of the first array of accesses of this kind, where one serves all.
-abbrev pub all_first : Kind → ℕ
-all_first k = 0
-
--- The same, where fetches and data have one each.
-abbrev pub first_of_kind : Kind → ℕ
-first_of_kind kind.Fetch = 0
-first_of_kind kind.Load = 1
-first_of_kind kind.Store = 1
-
--- The same, where fetches and data have one each or not.
+-- The number of the first array of accesses of this kind, where fetches and data have one each or not.
 abbrev pub first_in : Bool → Kind → ℕ
-first_in false k = all_first k
-first_in true k = first_of_kind k
+first_in false k = 0
+first_in true kind.Fetch = 0
+first_in true kind.Load = 1
+first_in true kind.Store = 1
 
 -- The array with this number alone.
 abbrev pub alone_at : ℕ → List TlbArray → List TlbArray
@@ -31,10 +23,10 @@ alone_at zero (a ∷ rest) = a ∷ []
 alone_at (suc i) (a ∷ rest) = alone_at i rest
 
 -- The leaf of 4 KiB with this word is the newest of its set of the first array of this kind; other leaves in front stay there where the sets are a multiple of eight, and other first arrays stay.
-pub record IsKept (first : Kind → ℕ) (k : Kind) (space page word : ℕ) (old new : List TlbArray) : Type 0 where
-  pub front : IsFront space page word (alone_at (first k) new)
-  pub stays : HasEights (alone_at (first k) old) → FrontsStay (page % 8) (alone_at (first k) old) (alone_at (first k) new)
-  pub others : (j : Kind) → (first j ≡ first k → ⊥) → alone_at (first j) new ≡ alone_at (first j) old
+pub record IsKept (split : Bool) (k : Kind) (space page word : ℕ) (old new : List TlbArray) : Type 0 where
+  pub front : IsFront space page word (alone_at (first_in split k) new)
+  pub stays : HasEights (alone_at (first_in split k) old) → FrontsStay (page % 8) (alone_at (first_in split k) old) (alone_at (first_in split k) new)
+  pub others : (j : Kind) → (first_in split j ≡ first_in split k → ⊥) → alone_at (first_in split j) new ≡ alone_at (first_in split j) old
 
 -- The numbers of the first arrays of fetches, of loads and of stores.
 abbrev pub numbers_of : Bool → List ℕ

@@ -16,9 +16,9 @@ pub record IsKey (key space page : ℕ) : Type 0 where
   pub page_in : page < 2 ^ 52
   pub is_tag : key ≡ tag_of space page order.K4
 
--- The place of a page of the first array with this number: eight of each, by the page's last three bits.
+-- The place of a page of the first array with this number: by the page's last three bits, beside that of the other first array.
 abbrev pub page_place : ℕ → ℕ → ℕ
-page_place first page = first * 8 + page % 8
+page_place first page = page % 8 * 2 + first
 
 -- Each page whose key is at its place hits the leaf of the first array with the word beside the key, and that is the newest of its set.
 abbrev pub Knows : ℕ → MruPages → List TlbArray → Type 0
@@ -26,4 +26,4 @@ Knows first n arrays = (space page : ℕ) → IsKey (slice_index_or n.keys (page
 
 -- What is known of other first arrays stays so.
 abbrev pub StaysKnown : ℕ → MruPages → MruPages → Type 0
-StaysKnown first n new = (other : ℕ) (arrays : List TlbArray) → (other ≡ first → ⊥) → Knows other n arrays → Knows other new arrays
+StaysKnown first n new = (other : ℕ) (arrays : List TlbArray) → other < 2 → (other ≡ first → ⊥) → Knows other n arrays → Knows other new arrays

@@ -1,5 +1,5 @@
 -- The shapes that a row's arrays have, and what is known of them.
-use Rattle.std.specs.Prelude.{ℕ, ◌≡◌, ◌<◌, ◌%◌, true, List, [], ◌∷◌, None, Some}
+use Rattle.std.specs.Prelude.{ℕ, ◌≡◌, ◌<◌, ◌%◌, Bool, true, false, List, [], ◌∷◌, None, Some}
 use Rattle.xl_model.specs.declared.address.Kind.{Kind}
 use Rattle.xl_model.specs.declared.address.Kind.TheVariants as kind
 use Rattle.xl_model.specs.declared.address.Order.TheVariants as order
@@ -13,7 +13,7 @@ use Rattle.xl_tlb.specs.declared.pair.Seen.{Seen}
 use Rattle.xl_tlb.specs.declared.pair.Seen.TheVariants as seen
 use Rattle.xl_tlb.specs.Answers.{IsNowhere, IsWord}
 use Rattle.xl_array.specs.Arrays.{IsCommon}
-use Rattle.xl_tlb.specs.Firsts.{IsKept, alone_at}
+use Rattle.xl_tlb.specs.Firsts.{IsKept, alone_at, first_in}
 use Rattle.xl_tlb.specs.Fronts.{FirstLacks}
 use Rattle.xl_array.specs.Touches.{IsFrontHit, IsPageTouch, IsTouch, LacksSmall}
 use Rattle.xl_tlb.specs.Tlbs.{TlbState, leaf_replied, tlb_filled, tlb_looked}
@@ -29,36 +29,41 @@ pub record IsFirst (s second : TlbSpec) : Type 0 where
   pub below : s.level < second.level
   pub eights : s.sets % 8 ≡ 0
 
--- The first of these arrays serves fetches, the second data, the third all accesses; and that is the second one of both.
+-- The second of two arrays serves all accesses.
+pub record IsSecond (s : TlbSpec) : Type 0 where
+  pub all : s.serves ≡ serves.All
+  pub pair : IsOfPair s
+
+-- One first array serves all accesses, under the second one.
+pub record AreTwo (f s : TlbSpec) : Type 0 where
+  pub all : f.serves ≡ serves.All
+  pub one : IsFirst f s
+  pub second : IsSecond s
+
+-- A first array serves fetches and another one data, both under the second one.
 pub record AreThree (f d s : TlbSpec) : Type 0 where
   pub fetches : f.serves ≡ serves.Fetch
   pub loads : d.serves ≡ serves.Data
-  pub all : s.serves ≡ serves.All
   pub one : IsFirst f s
   pub other : IsFirst d s
-  pub second : IsOfPair s
+  pub second : IsSecond s
 
--- There are three such arrays.
-abbrev pub AreSplit : List TlbSpec → Type 0
-AreSplit [] = ⊥
-AreSplit (f ∷ []) = ⊥
-AreSplit (f ∷ d ∷ []) = ⊥
-AreSplit (f ∷ d ∷ s ∷ []) = AreThree f d s
-AreSplit (f ∷ d ∷ s ∷ t ∷ rest) = ⊥
+-- There are two such levels, where fetches and data have a first array each or not.
+abbrev pub ArePaired : Bool → List TlbSpec → Type 0
+ArePaired false [] = ⊥
+ArePaired false (f ∷ []) = ⊥
+ArePaired false (f ∷ s ∷ []) = AreTwo f s
+ArePaired false (f ∷ s ∷ t ∷ rest) = ⊥
+ArePaired true [] = ⊥
+ArePaired true (f ∷ []) = ⊥
+ArePaired true (f ∷ d ∷ []) = ⊥
+ArePaired true (f ∷ d ∷ s ∷ []) = AreThree f d s
+ArePaired true (f ∷ d ∷ s ∷ t ∷ rest) = ⊥
 
--- The first array serves all accesses, and so does the second.
-pub record AreTwo (f s : TlbSpec) : Type 0 where
-  pub all : f.serves ≡ serves.All
-  pub both : s.serves ≡ serves.All
-  pub one : IsFirst f s
-  pub second : IsOfPair s
-
--- There are two such arrays.
-abbrev pub AreJoint : List TlbSpec → Type 0
-AreJoint [] = ⊥
-AreJoint (f ∷ []) = ⊥
-AreJoint (f ∷ s ∷ []) = AreTwo f s
-AreJoint (f ∷ s ∷ t ∷ rest) = ⊥
+-- How many first arrays there are: the number of the second one.
+abbrev pub firsts_in : Bool → ℕ
+firsts_in false = 1
+firsts_in true = 2
 
 -- There is one array, which serves all accesses and takes leaves of 4 KiB.
 abbrev pub IsOne : List TlbSpec → Type 0
@@ -81,15 +86,11 @@ pub record IsPairFill (space page word : ℕ) (a b new after : TlbArray) : Type 
   pub front : IsFrontHit space page word new
   pub second : after ≡ array_filled (small_leaf space page word) b
 
--- The two arrays that serve a kind of access change so, and the other one stays.
-pub data AtKind (P : TlbArray → TlbArray → TlbArray → TlbArray → Type 0) : Kind → List TlbArray → List TlbArray → Type 0 where
-  AtFetch : (f d s new after : TlbArray) (is : P f s new after) → AtKind P kind.Fetch (f ∷ d ∷ s ∷ []) (new ∷ d ∷ after ∷ [])
-  AtLoad : (f d s new after : TlbArray) (is : P d s new after) → AtKind P kind.Load (f ∷ d ∷ s ∷ []) (f ∷ new ∷ after ∷ [])
-  AtStore : (f d s new after : TlbArray) (is : P d s new after) → AtKind P kind.Store (f ∷ d ∷ s ∷ []) (f ∷ new ∷ after ∷ [])
-
--- Both arrays change so.
-pub data AtBoth (P : TlbArray → TlbArray → TlbArray → TlbArray → Type 0) : List TlbArray → List TlbArray → Type 0 where
-  Both : (a s new after : TlbArray) (is : P a s new after) → AtBoth P (a ∷ s ∷ []) (new ∷ after ∷ [])
+-- The two arrays that serve a kind of access change so, and another one stays.
+pub data AtPair (P : TlbArray → TlbArray → TlbArray → TlbArray → Type 0) : Bool → Kind → List TlbArray → List TlbArray → Type 0 where
+  AtAll : (k : Kind) (a s new after : TlbArray) (is : P a s new after) → AtPair P false k (a ∷ s ∷ []) (new ∷ after ∷ [])
+  AtFetch : (f d s new after : TlbArray) (is : P f s new after) → AtPair P true kind.Fetch (f ∷ d ∷ s ∷ []) (new ∷ d ∷ after ∷ [])
+  AtData : (k : Kind) (data_is : first_in true k ≡ 1) (f d s new after : TlbArray) (is : P d s new after) → AtPair P true k (f ∷ d ∷ s ∷ []) (f ∷ new ∷ after ∷ [])
 
 -- The result of a look in one array, and what it leaves of it.
 abbrev pub IsAloneLook : ℕ → ℕ → Answered → TlbArray → TlbArray → Type 0
@@ -108,26 +109,26 @@ pub data AtOne (P : TlbArray → TlbArray → Type 0) : List TlbArray → List T
   Alone : (a new : TlbArray) (is : P a new) → AtOne P (a ∷ []) (new ∷ [])
 
 -- A leaf of 4 KiB with this word answers an access of this kind, and may be kept.
-pub record IsKnownWord (first : Kind → ℕ) (k : Kind) (space page word : ℕ) (old new : TlbState) : Type 0 where
+pub record IsKnownWord (split : Bool) (k : Kind) (space page word : ℕ) (old new : TlbState) : Type 0 where
   pub found : Some (small_leaf space page word) ≡ leaf_replied (answer_of k old.arrays space page)
   pub after : new ≡ tlb_looked k space page old
-  pub kept : IsKept first k space page word old.arrays new.arrays
+  pub kept : IsKept split k space page word old.arrays new.arrays
 
 -- What each answer of a look in line says; where a larger leaf may answer, nothing changes.
-abbrev pub IsKnownAnswer : (Kind → ℕ) → Kind → ℕ → ℕ → Answered → TlbState → TlbState → Type 0
-IsKnownAnswer first k space page (answered.Word word) old new = IsKnownWord first k space page word old new
-IsKnownAnswer first k space page (answered.Large word) old new = IsWord k space page word old new
-IsKnownAnswer first k space page answered.Nowhere old new = IsNowhere k space page old new
-IsKnownAnswer first k space page answered.Unknown old new = FirstLacks space page (alone_at (first k) old.arrays) × (new ≡ old)
+abbrev pub IsKnownAnswer : Bool → Kind → ℕ → ℕ → Answered → TlbState → TlbState → Type 0
+IsKnownAnswer split k space page (answered.Word word) old new = IsKnownWord split k space page word old new
+IsKnownAnswer split k space page (answered.Large word) old new = IsWord k space page word old new
+IsKnownAnswer split k space page answered.Nowhere old new = IsNowhere k space page old new
+IsKnownAnswer split k space page answered.Unknown old new = FirstLacks space page (alone_at (first_in split k) old.arrays) × (new ≡ old)
 
 -- The same, where what is found is kept.
-abbrev pub IsAnswered : (Kind → ℕ) → Kind → ℕ → ℕ → Answered → TlbState → TlbState → Type 0
-IsAnswered first k space page (answered.Word word) old new = IsWord k space page word old new
-IsAnswered first k space page (answered.Large word) old new = IsWord k space page word old new
-IsAnswered first k space page answered.Nowhere old new = IsNowhere k space page old new
-IsAnswered first k space page answered.Unknown old new = FirstLacks space page (alone_at (first k) old.arrays) × (new ≡ old)
+abbrev pub IsAnswered : Bool → Kind → ℕ → ℕ → Answered → TlbState → TlbState → Type 0
+IsAnswered split k space page (answered.Word word) old new = IsWord k space page word old new
+IsAnswered split k space page (answered.Large word) old new = IsWord k space page word old new
+IsAnswered split k space page answered.Nowhere old new = IsNowhere k space page old new
+IsAnswered split k space page answered.Unknown old new = FirstLacks space page (alone_at (first_in split k) old.arrays) × (new ≡ old)
 
 -- The arrays that serve an access of this kind are filled with a leaf of 4 KiB, which may be kept.
-pub record IsKnownFill (first : Kind → ℕ) (k : Kind) (space page word : ℕ) (old new : TlbState) : Type 0 where
+pub record IsKnownFill (split : Bool) (k : Kind) (space page word : ℕ) (old new : TlbState) : Type 0 where
   pub after : new ≡ tlb_filled k (small_leaf space page word) old
-  pub kept : IsKept first k space page word old.arrays new.arrays
+  pub kept : IsKept split k space page word old.arrays new.arrays

@@ -10,8 +10,8 @@ ghost use Rattle.xl_model.specs.declared.address.Order.TheVariants as order;
 use xl_array::Lookup;
 
 /// For eight pages at most of each of two first arrays, the words of the leaves that answer them:
-/// each is the newest of its set of that array. A page's place among the eight is its number's last
-/// three bits, and its key the tag of its leaf.
+/// each is the newest of its set of that array. The last three bits of a page's number give its
+/// place, beside that of the other array, and its key is the tag of its leaf.
 #[derive(Clone, Copy)]
 pub(crate) struct MruPages {
     keys: [u64; 16],
@@ -24,7 +24,7 @@ fn place_of(first: usize, page: u64) -> usize
     requires { first < 2 }
     ensures { result ≡ page_place first page }
 {
-    first * 8 + (page % 8) as usize
+    (page % 8) as usize * 2 + first
 }
 
 /// Empty slot; no tag has this value.

@@ -16,7 +16,7 @@ use crate::levels::{Answered, Levels};
 use crate::pair::{Step, first_and_rest};
 use crate::shape::Shape;
 use xl_array::{AnyArray, Lookup};
-use xl_model::Kind;
+use xl_model::{Kind, Serves};
 
 /// One such array.
 pub(crate) struct One;
@@ -28,7 +28,10 @@ pub(crate) fn is_one(arrays: &[AnyArray]) -> bool
     let [first] = arrays else {
         return false;
     };
-    first.serves_all() && first.takes_small()
+    match first.serving() {
+        Serves::All => first.takes_small(),
+        Serves::Fetch | Serves::Data => false,
+    }
 }
 
 /// Whether the sets of the first array are a multiple of eight.

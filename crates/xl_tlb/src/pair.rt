@@ -13,7 +13,6 @@ ghost use Rattle.xl_tlb.specs.Shapes.{IsAloneLook, IsOfPair, IsPairLook, IsPairF
 
 use crate::levels::Answered;
 use xl_array::{AnyArray, Lookup};
-use xl_model::Order;
 
 /// What a look for a leaf of 4 KiB in two arrays saw: the leaf's word, and which array hits; or the
 /// word of the page of a larger leaf, which the first one hits; or that none does; or that a larger
@@ -51,7 +50,7 @@ fn look_second(first: &mut AnyArray, second: &mut AnyArray, lookup: Lookup) -> S
     ensures { IsPairLook lookup.space lookup.page result first.old second.old first.new second.new }
 {
     let place = second.common_set_of(lookup);
-    let Some(word) = second.touch_common(place, lookup, Order::K4) else {
+    let Some(word) = second.touch_common(place, lookup) else {
         if second.has_large() {
             return Seen::Unknown;
         }
@@ -103,7 +102,7 @@ impl Step for FirstStep {
     #[inline(always)]
     fn look_pair(first: &mut AnyArray, _second: &mut AnyArray, lookup: Lookup) -> Seen {
         let set = first.common_set_of(lookup);
-        match first.touch_common(set, lookup, Order::K4) {
+        match first.touch_common(set, lookup) {
             Some(word) => Seen::First { word },
             None => Seen::Unknown,
         }
@@ -142,7 +141,7 @@ impl Step for LargeStep {
 
     #[inline(always)]
     fn look_pair(first: &mut AnyArray, second: &mut AnyArray, lookup: Lookup) -> Seen {
-        if let Some(word) = first.touch_large(true, lookup.space, lookup.page) {
+        if let Some(word) = first.touch_large(lookup.space, lookup.page) {
             return Seen::Large { word };
         }
         look_second(first, second, lookup)
@@ -150,7 +149,7 @@ impl Step for LargeStep {
 
     #[inline(always)]
     fn look_alone(first: &mut AnyArray, lookup: Lookup) -> Answered {
-        match first.touch_large(false, lookup.space, lookup.page) {
+        match first.touch_large(lookup.space, lookup.page) {
             Some(word) => Answered::Large { word },
             None => Answered::Nowhere,
         }

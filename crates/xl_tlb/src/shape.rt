@@ -46,14 +46,14 @@ pub(crate) trait Shape {
         requires fits { fits (map spec_of levels.old.arrays) }
         requires lacks { P.lacks ≡ true → FirstLacks lookup.space lookup.page
             (alone_at (first_in split kind) levels.old.arrays) }
-        ensures { IsKnownAnswer (first_in split) kind lookup.space lookup.page result
+        ensures { IsKnownAnswer split kind lookup.space lookup.page result
             levels.old levels.new };
 
     /// Fills the arrays that serve accesses of this kind with the leaf of 4 KiB that is sought.
     fn fill_in(levels: &mut Levels, kind: Kind, lookup: Lookup, word: u64)
         requires lookup { IsLookup order_of.K4 lookup }
         requires fits { fits (map spec_of levels.old.arrays) }
-        ensures { IsKnownFill (first_in split) kind lookup.space lookup.page word
+        ensures { IsKnownFill split kind lookup.space lookup.page word
             levels.old levels.new };
 }
 
@@ -63,7 +63,7 @@ fn keep<S: Shape>(pages: &mut KnownPages, kind: Kind, lookup: Lookup, word: u64)
     requires { IsLookup order_of.K4 lookup }
     ensures { (old new : List TlbArray) → Fits S.split S.fits pages.old old
         → map spec_of new ≡ map spec_of old
-        → IsKept (first_in S.split) kind lookup.space lookup.page word old new
+        → IsKept S.split kind lookup.space lookup.page word old new
         → Fits S.split S.fits pages.new new }
 {
     let eights = S::has_eights(pages);
@@ -77,7 +77,7 @@ fn look_once<S: Shape, P: Step>(known: &mut Known, kind: Kind, lookup: Lookup) -
     requires fits { Fits S.split S.fits known.old.pages known.old.levels.arrays }
     requires lacks { P.lacks ≡ true → FirstLacks lookup.space lookup.page
         (alone_at (first_in S.split kind) known.old.levels.arrays) }
-    ensures answer { IsAnswered (first_in S.split) kind lookup.space lookup.page result
+    ensures answer { IsAnswered S.split kind lookup.space lookup.page result
         known.old.levels known.new.levels }
     ensures fits { Fits S.split S.fits known.new.pages known.new.levels.arrays }
 {

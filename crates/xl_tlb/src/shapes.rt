@@ -8,12 +8,11 @@ ghost use Rattle.xl_tlb.specs.Fits.{fits_in};
 ghost use Rattle.xl_array.specs.Lookup.{IsLookup};
 ghost use Rattle.xl_tlb.specs.Tlbs.{tlb_filled};
 
-use crate::joint::{Joint, are_joint};
 use crate::known::{Known, KnownPages};
 use crate::levels::Levels;
 use crate::one::{One, has_eights, is_one};
+use crate::paired::{Paired, are_joint, are_split};
 use crate::shape::{fill, search};
-use crate::split::{Split, are_split};
 use xl_array::{Hit, Lookup};
 use xl_model::{Kind, Order};
 
@@ -81,8 +80,8 @@ impl AnyShape {
         }
         let Lookup { space, page, tag } = lookup;
         match self {
-            AnyShape::Joint => search::<Joint>(known, kind, space, page, tag),
-            AnyShape::Split => search::<Split>(known, kind, space, page, tag),
+            AnyShape::Joint => search::<Paired<false>>(known, kind, space, page, tag),
+            AnyShape::Split => search::<Paired<true>>(known, kind, space, page, tag),
             AnyShape::One => search::<One>(known, kind, space, page, tag),
             AnyShape::InTurn => known.levels.look(kind, space, page),
         }
@@ -99,8 +98,8 @@ impl AnyShape {
         ensures fits { fits_in self known.new.pages known.new.levels.arrays }
     {
         match self {
-            AnyShape::Joint => fill::<Joint>(known, kind, space, page, word),
-            AnyShape::Split => fill::<Split>(known, kind, space, page, word),
+            AnyShape::Joint => fill::<Paired<false>>(known, kind, space, page, word),
+            AnyShape::Split => fill::<Paired<true>>(known, kind, space, page, word),
             AnyShape::One => fill::<One>(known, kind, space, page, word),
             AnyShape::InTurn => {
                 let order = Order::K4;

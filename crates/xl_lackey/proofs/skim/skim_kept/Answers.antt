@@ -1,5 +1,5 @@
-use Rattle.xl_lackey.proofs.Common.{◌++◌, ◌+◌, ◌-◌, ◌<◌, ◌∙◌, ◌∷◌, ◌≡◌, [], Access, ap, arith, IsRecordLine, IsSure, length, length-set, length-take, List, set, skim_at, Skims, subst, sym, take, take_more_set, take_rest, ℕ}
-use Rattle.xl_lackey.proofs.SkimLemmas.{skim_more, skim_none, sure_less}
+use Rattle.xl_lackey.proofs.Common.{◌++◌, ◌+◌, ◌-◌, ◌<◌, ◌∙◌, ◌∷◌, ◌≡◌, [], Access, ap, arith, IsRecordLine, IsSure, length, length-set, length-take, List, Runs, set, subst, sym, take, take_more_set, take_rest, ℕ}
+use Rattle.xl_lackey.proofs.SkimLemmas.{runs_more, runs_none, sure_less}
 use Rattle.xl_lackey.proofs.skim.skim_kept.Goals as goal
 
 pub kept-init : goal.kept-init
@@ -8,7 +8,7 @@ kept-init c =
     let slots = c.args.slots.now in
     let first : List Access = take c.args.len slots in
     let same : first ≡ take (c.args.len + 0) slots = ap (λ (k : ℕ). take k slots) (omega arith) in record {
-      runs = λ n h. subst (λ (xs : List Access). Skims n text first xs (skim_at n 0 0)) same (skim_none n text first h);
+      runs = subst (λ (xs : List Access). Runs text first xs (record { used = 0; taken = 0 })) same (runs_none text first);
       places = c.requires.places;
       few = omega arith;
       sure = subst (λ (xs : List Access). IsSure (c.args.most - 0) (length text - 0) xs) same
@@ -31,8 +31,8 @@ kept-preserved c =
     sym (take_more_set slots at access within) ∙ ap (λ (k : ℕ). take k (set slots at access)) (omega arith)
     ∙ sym (ap (take (c.args.len + (taken + 1))) c.put.ensures) in
     let line = subst (λ (t : List ℕ). IsRecordLine t count (access ∷ [])) (take_rest text used) c.in-Some.ensures.record in record {
-      runs = λ n h. subst (λ (xs : List Access). Skims n text first xs (skim_at n (used + count) (taken + 1))) grown
-          (skim_more n text first (take at slots) (access ∷ []) used taken count (c.kept.invariant.runs n h) line);
+      runs = subst (λ (xs : List Access). Runs text first xs (record { used = used + count; taken = taken + 1 })) grown
+          (runs_more text first (take at slots) (access ∷ []) (record { used = used; taken = taken }) count c.kept.invariant.runs line);
       places = ap length c.put.ensures ∙ length-set slots at access ∙ c.kept.invariant.places;
       few = omega (arith, c.kept-test.true);
       sure = subst (λ (xs : List Access). IsSure (c.args.most - (taken + 1)) (length text - (used + count)) xs) grown

@@ -1,10 +1,10 @@
-use Rattle.xl_lackey.proofs.Common.{◌+◌, ◌∙◌, Access, arith, IsRecordLine, length-drop, List, read_of, skim_at, Skims, subst, sym, take, take_rest, ℕ}
-use Rattle.xl_lackey.proofs.SkimLemmas.{skim_more, skim_none}
+use Rattle.xl_lackey.proofs.Common.{◌+◌, ◌∙◌, Access, arith, IsRecordLine, length-drop, List, read_of, Runs, subst, sym, take, take_rest, ℕ}
+use Rattle.xl_lackey.proofs.SkimLemmas.{runs_more, runs_none}
 use Rattle.xl_lackey.proofs.skim.skim_plain.Goals as goal
 
 pub plain-init : goal.plain-init
 plain-init c = record {
-  runs = λ n h. skim_none n c.args.text.now (take c.args.len c.args.slots.now) h;
+  runs = runs_none c.args.text.now (take c.args.len c.args.slots.now);
   places = c.requires.places;
   end = c.requires.len;
   within = omega arith;
@@ -21,8 +21,8 @@ plain-preserved c =
     let put = c.put_near-end in
     let line = subst (λ (t : List ℕ). IsRecordLine t near.used (read_of near)) (take_rest text old.used) c.in-Some.ensures.line in
     record {
-      runs = λ n h. subst (λ (xs : List Access). Skims n text first xs (skim_at n (old.used + near.used) (old.taken + 1))) (sym put.ensures.items)
-          (skim_more n text first (take old.end old.slots) (read_of near) old.used old.taken near.used (old.invariant.runs n h) line);
+      runs = subst (λ (xs : List Access). Runs text first xs (record { used = old.used + near.used; taken = old.taken + 1 })) (sym put.ensures.items)
+          (runs_more text first (take old.end old.slots) (read_of near) (record { used = old.used; taken = old.taken }) near.used old.invariant.runs line);
       places = put.ensures.places ∙ old.invariant.places;
       end = omega (arith, put.ensures.few, c.plain-test.true, c.full_at-full.ensures.room);
       within = omega (arith, line.line.within, length-drop old.used text, old.invariant.within);
@@ -31,4 +31,4 @@ plain-preserved c =
     }
 
 pub returns-then-text-lt-NEAR-clause-runs : goal.returns-then-text-lt-NEAR-clause-runs
-returns-then-text-lt-NEAR-clause-runs c = λ n h. skim_none n c.args.text.now (take c.args.len c.args.slots.now) h
+returns-then-text-lt-NEAR-clause-runs c = runs_none c.args.text.now (take c.args.len c.args.slots.now)

@@ -1,4 +1,4 @@
-use Rattle.xl_lackey.proofs.Common.{◌-◌, ◌+◌, ◌≡◌, ◌≤◌, batch_size, length, Runs, take}
+use Rattle.xl_lackey.proofs.Common.{◌+◌, ◌-◌, ◌≡◌, ◌≤◌, batch_size, length, Runs, take}
 use Rattle.xl_lackey.proofs.skim.skim_plain.Given as goal
 
 abbrev pub invariant-plain : goal.invariant-plain

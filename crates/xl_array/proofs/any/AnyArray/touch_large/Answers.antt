@@ -1,13 +1,9 @@
-use Rattle.xl_array.proofs.Common.{leaf_hit}
-use Rattle.xl_array.proofs.TouchLemmas.{large_found}
+use Rattle.xl_array.proofs.Common.{array_in}
+use Rattle.xl_array.proofs.LookupLemmas.{known_paged}
 use Rattle.xl_array.proofs.any.AnyArray.touch_large.Goals as goal
 
-pub returns-clause-some : goal.returns-clause-some
-returns-clause-some c =
-    let leaf = leaf_hit c.args.space c.args.page c.in-Some.hit in
-    record {
-      leaf = leaf;
-      found = large_found c.args.self.now c.args.space c.args.page leaf c.requires.lacks c.in-Some.ensures.found;
-      says = c.page_word.ensures c.args.space;
-      moved = c.in-Some.ensures.some;
-    }
+pub invariant_of-self : goal.invariant_of-self
+invariant_of-self c =
+    let t = c.self.inside in
+    let is = c.touch_large_at_width.ensures in
+    known_paged t.held t.large t.places c.args.space c.args.page c.touch_large_at_width.result (array_in t.array) (array_in c.touch_large_at_width.new.arrays) is.some is.none c.self.invariant

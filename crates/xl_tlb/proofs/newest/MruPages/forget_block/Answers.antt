@@ -13,10 +13,10 @@ returns-clause-known c = λ old new known stay.
     ]
 
 pub returns-clause-others : goal.returns-clause-others
-returns-clause-others c = λ other arrays apart known.
+returns-clause-others c = λ other arrays few apart known.
     let first = c.args.first in
     let block = c.args.block in
     elim c.if-not-eights.branch [
-      | then-not-eights w ↦ rw (w.self-is, c.place_of-place.ensures) (forgot_others first w.forget.new.self (record w.forget.new.self { keys = set w.forget.new.self.keys (page_place first block) no_key }) block refl refl other arrays apart (w.forget.ensures other arrays))
-      | else-not-eights w ↦ rw (w.self-is, c.place_of-place.ensures) (forgot_others first c.args.self.now (record c.args.self.now { keys = set c.args.self.now.keys (page_place first block) no_key }) block refl refl other arrays apart known)
+      | then-not-eights w ↦ rw (w.self-is, c.place_of-place.ensures) (forgot_others first w.forget.new.self (record w.forget.new.self { keys = set w.forget.new.self.keys (page_place first block) no_key }) block refl refl c.requires other arrays few apart (w.forget.ensures other arrays))
+      | else-not-eights w ↦ rw (w.self-is, c.place_of-place.ensures) (forgot_others first c.args.self.now (record c.args.self.now { keys = set c.args.self.now.keys (page_place first block) no_key }) block refl refl c.requires other arrays few apart known)
     ]

@@ -7,4 +7,4 @@ returns-clause-known c arrays known front =
     rw c.place_of-place.ensures (kept_one c.args.first c.args.self.now c.args.lookup c.args.word arrays c.requires.first c.requires.lookup (search rules) (search rules) known front)
 
 pub returns-clause-others : goal.returns-clause-others
-returns-clause-others c = rw c.place_of-place.ensures (kept_others c.args.first c.args.self.now c.args.lookup c.args.word)
+returns-clause-others c = rw c.place_of-place.ensures (kept_others c.args.first c.args.self.now c.args.lookup c.args.word c.requires.first)

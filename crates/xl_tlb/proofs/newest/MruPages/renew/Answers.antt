@@ -4,4 +4,4 @@ pub returns-clause-known : goal.returns-clause-known
 returns-clause-known c old new knows stay front = c.keep.ensures.known new (c.forget_block.ensures.known old new knows stay) front
 
 pub returns-clause-others : goal.returns-clause-others
-returns-clause-others c other arrays apart known = c.keep.ensures.others other arrays apart (c.forget_block.ensures.others other arrays apart known)
+returns-clause-others c other arrays few apart known = c.keep.ensures.others other arrays few apart (c.forget_block.ensures.others other arrays few apart known)

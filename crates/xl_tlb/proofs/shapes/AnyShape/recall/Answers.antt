@@ -1,6 +1,5 @@
-use Rattle.xl_tlb.proofs.Common.{arith}
+use Rattle.xl_tlb.proofs.Common.{arith, split_of}
 use Rattle.xl_tlb.proofs.ShapeLemmas.{few_firsts, recalled, shape_numbers}
-use Rattle.xl_tlb.specs.Fits.{split_of}
 use Rattle.xl_tlb.proofs.shapes.AnyShape.recall.Goals as goal
 
 pub word-requires-clause-first : goal.word-requires-clause-first

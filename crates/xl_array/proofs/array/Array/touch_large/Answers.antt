@@ -1,6 +1,6 @@
 use Rattle.xl_array.proofs.Common.{leaf_hit}
 use Rattle.xl_array.proofs.TouchLemmas.{large_found}
-use Rattle.xl_array.proofs.array.Array.look_large.Goals as goal
+use Rattle.xl_array.proofs.array.Array.touch_large.Goals as goal
 
 pub returns-clause-some : goal.returns-clause-some
 returns-clause-some g c =
