@@ -1,5 +1,5 @@
 -- The names that this crate's proofs import from elsewhere, passed on from one place. Declares nothing.
-pub use Rattle.std.proofs.Common.{◌%◌, ◌&&◌, ◌*◌, ◌++◌, ◌+◌, ◌-◌, ◌/◌, ◌<◌, ◌^◌, ◌∙◌, ◌∷◌, ◌≡◌, ◌≢◌, ◌≤◌, [], ap, append-nil, append_assoc, ap₂, arith, bit_and, Bool, drop, false, Fits, get_or, inl, inr, length, length-append, length-drop, length-set, length-take, List, map, min, refl, replicate, rules, set, subst, suc, sym, take, true, w8, zero, ℕ}
+pub use Rattle.std.proofs.Common.{◌%◌, ◌&&◌, ◌*◌, ◌++◌, ◌+◌, ◌-◌, ◌/◌, ◌<◌, ◌^◌, ◌∙◌, ◌∷◌, ◌≡◌, ◌≢◌, ◌≤◌, [], ap, append-nil, append_assoc, ap₂, arith, bit_and, Bool, drop, false, Fits, get_or, inl, inr, length, length-append, length-drop, length-set, length-take, List, map, min, refl, replicate, set, subst, suc, sym, take, true, w8, zero, ℕ}
 pub use Rattle.std.proofs.Math.Seq.{drop-append-add, drop-length, take-add, take-append-add}
 pub use Rattle.std.proofs.lemmas.Bool.{cases_lt, le-ltb, lt-ltb}
 pub use Rattle.std.proofs.lemmas.Bool.Decides.{eqb_tells, nat_tests}
@@ -19,7 +19,7 @@ pub use Rattle.xl_lackey.specs.Digits.{digit_or_4096, hex_digit, hex_value}
 pub use Rattle.xl_lackey.specs.Lanes.{is_below, lane_value, less, number_of, plus}
 pub use Rattle.xl_lackey.specs.Lines.{address_in, after, before, decimal_value, fits, front, in_front, is_digit, is_remark, is_size, of_address, of_end, of_size, of_text, of_words, parted, size_in, with_rest}
 unfoldable pub use Rattle.xl_lackey.specs.Lines.{judge}
-pub use Rattle.xl_lackey.specs.PrefixCache.{IsBeginning, IsPrefix, two_bytes}
+pub use Rattle.xl_lackey.specs.PrefixCache.{four_bytes, IsBeginning, IsPrefix}
 pub use Rattle.xl_lackey.specs.Scans.{IsFirstLine}
 pub use Rattle.xl_lackey.specs.Skims.{accesses_in, accesses_near, all_accesses, batch_size, Gathered, HasAccesses, IsRecordLine, IsSure, lines_after, pair, read_of, Runs, runs_both, Skimmed, Skims, Taken, Takes, with_records}
 pub use Rattle.xl_lackey.specs.Stream.{due, first_due, Left, left, left_by, MayCome, next_line, of_due, Record, records, State, unless_bad, with_verdict}

@@ -1,6 +1,6 @@
--- Lines with short addresses and sizes, by fixed places.
-use Rattle.xl_lackey.proofs.Common.{◌*◌, ◌++◌, ◌+◌, ◌<◌, ◌==◌, ◌^◌, ◌∙◌, ◌∷◌, ◌≡◌, ◌≤◌, address_in, ap, arith, drop, drop_more, false, fits, Found, get_or, hex_digit, hex_value, length, length-append, length-drop, List, nat_tests, refl, size_in, slice_index, Some, sym, take, take_more, true, usual_front, ℕ}
-use Rattle.xl_lackey.proofs.AddressLemmas.{after_first, hex_at, hex_more}
+-- Lines with short sizes whose bytes lie in one page, by the places of their parts.
+use Rattle.xl_lackey.proofs.Common.{◌++◌, ◌+◌, ◌<◌, ◌==◌, ◌^◌, ◌∙◌, ◌∷◌, ◌≡◌, ◌≤◌, address_in, ap, arith, borders, drop, drop_more, false, fits, Found, get_or, hex_value, length, length-append, length-drop, List, nat_tests, refl, size_in, slice_index, Some, sym, take, true, usual_front, ℕ}
+use Rattle.xl_lackey.proofs.AddressLemmas.{after_first, hex_at}
 use Rattle.xl_lackey.proofs.OwnFormLemmas.{front_length, own_at}
 use Rattle.xl_lackey.specs.Nears.{IsNumbers}
 
@@ -17,29 +17,23 @@ comma_at text v count h within some few e =
     sym (ap (hex_at v count) (drop_more text count 0 within) ∙ comma_read v count (get_or text count 0) (drop (count + 1) text) e some)
     ∙ after_first text v count h (omega arith) few
 
--- one digit more
-pub digit_more : (text : List ℕ) (v count d : ℕ) → hex_value 0 (take count text) ≡ Some v → count < length text → Some d ≡ hex_digit (get_or text count 0)
-    → hex_value 0 (take (count + 1) text) ≡ Some (v * 16 + d)
-digit_more text v count d h within e =
-    ap (hex_value 0) (take_more text count 0 within) ∙ hex_more 0 v (take count text) (get_or text count 0) d h (sym e)
+-- bytes in one page lie within 2^64
+page_fits : (addr above : ℕ) → addr < 2 ^ 64 → borders addr (above + 1) ≡ 0 → fits addr (above + 1) ≡ true
+page_fits addr above small page = grind (arith, nat_tests)
 
--- a short address and a size of two digits lie within 2^64
-pub near_fits : (addr size : ℕ) → addr < 16 ^ 10 → size < 100 → fits addr size ≡ true
-near_fits addr size a b = grind (arith, nat_tests)
-
--- an address and a size, by the places of their ends
-pub numbers_at : (text u : List ℕ) (addr comma size above digits : ℕ) → 14 ≤ length text → u ≡ drop (comma + 1) text → comma ≤ 10 → size ≡ above + 1 → size < 100
-    → digits ≤ 2 → addr < 16 ^ 10 → Some (addr, drop (comma + 1) text) ≡ address_in text → Some (size, digits) ≡ size_in u → slice_index u digits ≡ 10
+-- an address and a size in one page, by the places of their ends
+pub numbers_at : (text u : List ℕ) (addr comma size above digits : ℕ) → comma + digits + 2 ≤ length text → u ≡ drop (comma + 1) text → size ≡ above + 1 → size < 100
+    → addr < 2 ^ 64 → borders addr (above + 1) ≡ 0 → Some (addr, drop (comma + 1) text) ≡ address_in text → Some (size, digits) ≡ size_in u → slice_index u digits ≡ 10
     → IsNumbers text (record { addr = addr; above = above; used = comma + digits + 5 })
-numbers_at text u addr comma size above digits long e c some small d short address sizes newline = record {
-  few = omega arith;
-  small = omega (arith, some);
-  line = λ l. record {
-    within = omega (arith, length-append (usual_front l) text, front_length l);
-    some = omega arith;
-    line = own_at l (usual_front l ++ text) text u addr comma size digits refl e address sizes
-        (omega (arith, ap length e, length-drop (comma + 1) text)) newline (near_fits addr size short small)
-        ∙ ap (λ (k : ℕ). Some (drop (comma + digits + 5) (usual_front l ++ text), Found l addr k)) some;
-    proper = (omega (arith, some), omega (arith, some));
-  };
-}
+numbers_at text u addr comma size above digits long e some small within page address sizes newline =
+    let fit : fits addr size ≡ true = ap (λ (k : ℕ). fits addr k) some ∙ page_fits addr above within page in record {
+      small = omega (arith, some);
+      line = λ l. record {
+        within = omega (arith, length-append (usual_front l) text, front_length l);
+        some = omega arith;
+        line = own_at l (usual_front l ++ text) text u addr comma size digits refl e address sizes
+            (omega (arith, ap length e, length-drop (comma + 1) text)) newline fit
+            ∙ ap (λ (k : ℕ). Some (drop (comma + digits + 5) (usual_front l ++ text), Found l addr k)) some;
+        proper = (omega (arith, some), omega (arith, some, page));
+      };
+    }

@@ -136,7 +136,7 @@ takes_more n old mid new xs ys more count r k h e =
     }
 
 -- one record of one access less is sure
-pub sure_less : (more sure later rest used : ℕ) (xs : List Access) (a : Access) → IsSure sure rest xs → more + 1 ≡ sure → used ≤ 17 → later + used ≡ rest
+pub sure_less : (more sure later rest used : ℕ) (xs : List Access) (a : Access) → IsSure sure rest xs → more + 1 ≡ sure → used ≤ 19 → later + used ≡ rest
     → IsSure more later (xs ++ a ∷ [])
 sure_less more sure later rest used xs a is e few parts = record {
   text = omega (arith, is.text, e, few, parts);

@@ -16,13 +16,13 @@ pub record IsBeginning (extra : ℕ) (head : List ℕ) (kind : Kind) (page : ℕ
   pub parts : head ≡ usual_front letter ++ high
   pub many : length high ≡ 5 + extra
   pub value : hex_value 0 high ≡ Some page
-  pub small : page < 2 ^ 28
+  pub small : page < 2 ^ 36
   pub first : kind ≡ first_kind letter
   pub sole : is_modify letter ≡ false
 
--- The first two bytes as a number, of which the first counts least.
-abbrev pub two_bytes : List ℕ → ℕ
-two_bytes text = slice_index text 0 + slice_index text 1 * 256
+-- The first four bytes as a number, of which the first counts least.
+abbrev pub four_bytes : List ℕ → ℕ
+four_bytes text = slice_index text 0 + slice_index text 1 * 256 + slice_index text 2 * 65536 + slice_index text 3 * 16777216
 
 -- A page as it is kept, of an address with `extra` digits more than eight.
 pub record IsPrefix (extra : ℕ) (kept : Prefix) : Type 0 where
@@ -31,5 +31,5 @@ pub record IsPrefix (extra : ℕ) (kept : Prefix) : Type 0 where
   pub begins : IsBeginning extra head kept.kind page
   pub bytes : All (λ b. b < 256) head
   pub word : kept.word ≡ number_l 256 (drop extra head)
-  pub front : kept.front ≡ two_bytes head
+  pub front : kept.front ≡ four_bytes head
   pub addr : kept.addr ≡ page * 4096

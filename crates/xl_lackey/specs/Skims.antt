@@ -60,7 +60,7 @@ HasRoom accesses = length accesses + 2 ≤ batch_size
 -- `sure` records of one access each may be read of a text of `rest` bytes: their lines end there,
 -- and there is room for their accesses.
 pub record IsSure (sure rest : ℕ) (accesses : List Access) : Type 0 where
-  pub text : 17 * sure ≤ rest
+  pub text : 19 * sure ≤ rest
   pub room : length accesses + sure ≤ batch_size
 
 -- A text's first line, of `used` bytes with its newline, is a record with these accesses.

@@ -51,7 +51,7 @@ pub(crate) fn digit_or_page(byte: u8) -> u64
     HEX_DIGITS[byte as usize] as u64
 }
 
-fn hex_digit(byte: u8) -> Option<u64>
+pub(crate) fn hex_digit(byte: u8) -> Option<u64>
     ensures value { result ≡ digit_of byte }
     ensures bound { IfSome result (λ d. d < 16) }
 {
@@ -59,14 +59,20 @@ fn hex_digit(byte: u8) -> Option<u64>
     if value < 16 { Some(value) } else { None }
 }
 
-/// An address of 1 to 16 hexadecimal digits that a comma ends, and the comma's place. Inlined,
-/// since a call would return the pair through memory; so are the sizes below.
+/// An address of 1 to 16 hexadecimal digits that a comma ends, and the comma's place; the first
+/// `count` digits are read already, and have the value `first`. Inlined, since a call would return
+/// the pair through memory; so are the sizes below.
 #[inline(always)]
-pub(crate) fn address(text: &[u8]) -> Option<(u64, usize)>
+pub(crate) fn address(text: &[u8], first: u64, count: usize) -> Option<(u64, usize)>
+    requires within { count ≤ length text.now }
+    requires value { hex_value 0 (take count text.now) ≡ Some first }
+    requires small { first < 16 ^ count }
+    requires few { count ≤ 8 }
     ensures within { IfSome result (λ r. r.1 < length text.now) }
+    ensures few { IfSome result (λ r. r.1 ≤ 16) }
     ensures value { option_map (λ r. (r.0, drop (r.1 + 1) text.now)) result ≡ address_in text.now }
 {
-    let (mut value, count) = first_digits(text);
+    let mut value = first;
     for at in count..text.len() {
         if text[at] == b',' {
             return if at == 0 { None } else { Some((value, at)) };
@@ -78,23 +84,6 @@ pub(crate) fn address(text: &[u8]) -> Option<(u64, usize)>
         value = value * 16 + digit;
     }
     None
-}
-
-/// The value of the first digits of a text, and how many they are: eight or none. Nearly all
-/// addresses have eight, and they are read without a look at where the text ends.
-fn first_digits(text: &[u8]) -> (u64, usize)
-    ensures value { hex_value 0 (take result.1 text.now) ≡ Some result.0 }
-    ensures within { result.1 ≤ length text.now }
-    ensures few { result.1 ≤ 8 }
-    ensures small { result.0 < 16 ^ result.1 }
-{
-    if text.len() < 8 {
-        return (0, 0);
-    }
-    match eight_digits(text) {
-        Some(value) => (value, 8),
-        None => (0, 0),
-    }
 }
 
 /// The value of the first eight bytes of a text, where they are hexadecimal digits. The eight bytes
@@ -154,29 +143,6 @@ fn number(digits: u8x8) -> u64
     (halves >> 28) + halves % (1 << 32)
 }
 
-/// An address of eight digits or of ten, as nearly all are, and the place of the comma that ends
-/// it; the first eight digits are read already.
-#[inline(always)]
-pub(crate) fn near_address(text: &[u8], eight: u64) -> Option<(u64, usize)>
-    requires long { 11 ≤ length text.now }
-    requires value { hex_value 0 (take 8 text.now) ≡ Some eight }
-    requires small { eight < 16 ^ 8 }
-    ensures within { IfSome result (λ r. r.1 ≤ 10) }
-    ensures small { IfSome result (λ r. r.0 < 16 ^ 10) }
-    ensures value { IfSome result (λ r. Some (r.0, drop (r.1 + 1) text.now) ≡ address_in text.now) }
-{
-    if text[8] == b',' {
-        return Some((eight, 8));
-    }
-    let ninth = hex_digit(text[8])?;
-    let tenth = hex_digit(text[9])?;
-    if text[10] == b',' {
-        Some(((eight * 16 + ninth) * 16 + tenth, 10))
-    } else {
-        None
-    }
-}
-
 /// The size after an address of eight digits, where it has one digit: how many bytes it has above
 /// the first.
 #[inline(always)]
@@ -220,7 +186,17 @@ pub(crate) fn triple(text: &[u8]) -> u32
     ensures { result ≡ slice_index text.now 0 + slice_index text.now 1 * 256
         + slice_index text.now 2 * 65536 }
 {
-    u32x1::from_le_bytes(u8x4::from_slice(text)).to_array()[0] % (1 << 24)
+    quad(text) % (1 << 24)
+}
+
+/// Four bytes as a number, of which the first counts least.
+#[inline(always)]
+pub(crate) fn quad(text: &[u8]) -> u32
+    requires { 4 ≤ length text.now }
+    ensures { result ≡ slice_index text.now 0 + slice_index text.now 1 * 256
+        + slice_index text.now 2 * 65536 + slice_index text.now 3 * 16777216 }
+{
+    u32x1::from_le_bytes(u8x4::from_slice(text)).to_array()[0]
 }
 
 /// A size of one digit or of two, of which the first isn't 0, that a newline ends, and how many

@@ -5,14 +5,15 @@ mod access;
 mod batch;
 mod digits;
 mod fault;
+mod front;
 mod line;
+mod near;
 mod next;
 mod prefixes;
 mod reader;
 mod reference;
 mod scan;
 mod skim;
-mod usual;
 
 pub use access::{nth_access, sole_access};
 pub use batch::Batch;

@@ -96,7 +96,7 @@ fn read_address(letter: Letter, text: &[u8]) -> Verdict
         return Verdict::Bad { reason: 2 };
     }
     let text = &text[blanks..];
-    match digits::address(text) {
+    match digits::address(text, 0, 0) {
         Some((addr, comma)) => read_size(letter, addr, &text[comma + 1..]),
         None => Verdict::Bad { reason: 2 },
     }

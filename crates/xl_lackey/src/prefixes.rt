@@ -6,14 +6,14 @@ ghost use Rattle.xl_lackey.specs.Digits.{hex_value};
 ghost use Rattle.xl_lackey.specs.PrefixCache.{IsBeginning, IsPrefix};
 ghost use Rattle.xl_lackey.specs.Skims.{IsRecordLine};
 
-use crate::digits::{digit_or_page, eight_digits, near_size, pair, size_of_digit, word};
+use crate::digits::{digit_or_page, eight_digits, hex_digit, near_size, quad, size_of_digit, word};
+use crate::front::front_of;
 use crate::skim::Access;
-use crate::usual::front_of;
 use std::marker::Model;
 use std::simd::prelude::*;
 use xl_model::Kind;
 
-/// How many pages are kept of addresses of eight digits, and as many of those of ten.
+/// How many pages are kept of addresses of eight digits, of ten and of twelve each.
 const PLACES: usize = 256;
 
 /// Fewer lines of kept pages than this, one after another, are few.
@@ -31,7 +31,7 @@ const MOST_PLAIN: u64 = 256;
 struct Prefix {
     /// The eight bytes before the last three digits, of which the first counts least.
     word: u64,
-    /// The first two bytes, of which the first counts least.
+    /// The first four bytes, of which the first counts least.
     front: u32,
     /// The page's first address.
     addr: u64,
@@ -40,8 +40,8 @@ struct Prefix {
 }
 
 impl Prefix {
-    /// Whether the prefix matches. Eight bytes are the whole prefix of a line with eight digits,
-    /// and all but the letter of one with more.
+    /// Whether the prefix matches. Eight bytes are the whole prefix of a line with eight digits;
+    /// before those of a line with more there are four at most.
     #[inline(always)]
     fn begins(&self, word: u64, front: u32, extra: usize) -> bool
         ensures word { IsTrue result → self.now.word ≡ word }
@@ -88,16 +88,16 @@ fn place_of(word: u64, front: u32, extra: usize) -> usize
 /// kept: how many bytes it has with its newline, and its access.
 #[inline(always)]
 fn kept_record(prefixes: &[Prefix], text: &[u8], extra: usize) -> Option<(usize, Access)>
-    requires long { 17 ≤ length text.now }
-    requires few { extra ≤ 2 }
+    requires long { 19 ≤ length text.now }
+    requires few { extra ≤ 4 }
     requires comma { slice_index text.now (11 + extra) ≡ 44 }
     requires places { length prefixes.now ≡ 256 }
     requires kept { All (IsPrefix extra) prefixes.now }
     ensures record { IfSome result (λ r. IsRecordLine text.now r.0 (r.1 ∷ [])) }
-    ensures few { IfSome result (λ r. r.0 ≤ 17) }
+    ensures few { IfSome result (λ r. r.0 ≤ 19) }
 {
     let word = word(u8x8::from_slice(&text[extra..]));
-    let front = pair(text);
+    let front = quad(text);
     let page = &prefixes[place_of(word, front, extra)];
     if !page.begins(word, front, extra) {
         return None;
@@ -124,15 +124,15 @@ fn place_in_page(text: &[u8]) -> u64
 
 /// Keeps a page in its place.
 fn keep_page(prefixes: &mut [Prefix], text: &[u8], extra: usize, page: u64, kind: Kind)
-    requires long { 17 ≤ length text.now }
-    requires few { extra ≤ 2 }
+    requires long { 19 ≤ length text.now }
+    requires few { extra ≤ 4 }
     requires begins { IsBeginning extra (take (8 + extra) text.now) kind page }
     requires places { length prefixes.old ≡ 256 }
     requires kept { All (IsPrefix extra) prefixes.old }
     ensures kept { All (IsPrefix extra) prefixes.new }
 {
     let word = word(u8x8::from_slice(&text[extra..]));
-    let front = pair(text);
+    let front = quad(text);
     prefixes[place_of(word, front, extra)] = Prefix {
         word,
         front,
@@ -147,6 +147,7 @@ fn keep_page(prefixes: &mut [Prefix], text: &[u8], extra: usize, page: u64, kind
 pub(crate) struct PrefixCache {
     eight: [Prefix; PLACES],
     ten: [Prefix; PLACES],
+    twelve: [Prefix; PLACES],
     /// How many lines are read whether their pages are kept or not, the next time that few are.
     plain: u64,
 }
@@ -159,7 +160,8 @@ impl Model for PrefixCache {
 
     ghost view = { λ p. tt };
 
-    ghost invariant = { λ p. All (IsPrefix 0) p.eight × All (IsPrefix 2) p.ten };
+    ghost invariant = { λ p. All (IsPrefix 0) p.eight × All (IsPrefix 2) p.ten
+        × All (IsPrefix 4) p.twelve };
 }
 
 impl PrefixCache {
@@ -167,7 +169,7 @@ impl PrefixCache {
     pub(crate) fn new() -> PrefixCache {
         let eight = Prefix {
             word: 0x3030_3030_3020_2049,
-            front: 0x2049,
+            front: 0x3020_2049,
             addr: 0,
             kind: Kind::Fetch,
         };
@@ -175,9 +177,14 @@ impl PrefixCache {
             word: 0x3030_3030_3030_3020,
             ..eight
         };
+        let twelve = Prefix {
+            word: 0x3030_3030_3030_3030,
+            ..eight
+        };
         PrefixCache {
             eight: [eight; PLACES],
             ten: [ten; PLACES],
+            twelve: [twelve; PLACES],
             plain: FIRST_PLAIN,
         }
     }
@@ -200,22 +207,24 @@ impl PrefixCache {
     /// and its access.
     #[inline(always)]
     pub(crate) fn record(&self, text: &[u8]) -> Option<(usize, Access)>
-        requires { 17 ≤ length text.now }
+        requires { 19 ≤ length text.now }
         ensures record { IfSome result (λ r. IsRecordLine text.now r.0 (r.1 ∷ [])) }
-        ensures few { IfSome result (λ r. r.0 ≤ 17) }
+        ensures few { IfSome result (λ r. r.0 ≤ 19) }
     {
         if text[11] == b',' {
             kept_record(&self.eight, text, 0)
         } else if text[13] == b',' {
             kept_record(&self.ten, text, 2)
+        } else if text[15] == b',' {
+            kept_record(&self.twelve, text, 4)
         } else {
             None
         }
     }
 
-    /// Keeps the page of a line, where it has eight digits or ten and is no modify.
+    /// Keeps the page of a line, where it has eight digits, ten or twelve and is no modify.
     pub(crate) fn keep(&mut self, text: &[u8])
-        requires { 17 ≤ length text.now }
+        requires { 19 ≤ length text.now }
     {
         let Some((front, numbers)) = front_of(text) else {
             return;
@@ -228,8 +237,10 @@ impl PrefixCache {
         };
         if text[11] == b',' {
             keep_page(&mut self.eight, text, 0, eight / 4096, front.kind);
-        } else {
+        } else if text[13] == b',' {
             keep_page(&mut self.ten, text, 2, eight / 16, front.kind);
+        } else if let Some(ninth) = hex_digit(numbers[8]) {
+            keep_page(&mut self.twelve, text, 4, eight * 16 + ninth, front.kind);
         }
     }
 }

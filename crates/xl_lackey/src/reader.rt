@@ -8,13 +8,14 @@ ghost use Rattle.xl_lackey.specs.Skims.{Skimmed};
 
 use crate::batch::Batch;
 use crate::fault::Fault;
+use crate::front::front_of;
 use crate::line::{Verdict, judge};
+use crate::near::{NEAR, near_numbers};
 use crate::next::Next;
 use crate::prefixes::PrefixCache;
 use crate::reference::Reference;
 use crate::scan::read_lines;
 use crate::skim::skim_lines;
-use crate::usual::{NEAR, near_line};
 use std::alloc::Global;
 use std::marker::Model;
 use std::mem::swap;
@@ -151,16 +152,14 @@ impl Reader {
         if self.held().len() < NEAR {
             return None;
         }
-        let (used, verdict) = near_line(self.held())?;
-        let Verdict::Found { letter, addr, size } = verdict else {
-            return None;
-        };
+        let (front, numbers) = front_of(self.held())?;
+        let found = near_numbers(numbers)?;
         let line = self.lines().wrapping_add(1);
-        self.pass(used, line);
+        self.pass(found.used, line);
         Some(Reference {
-            letter,
-            addr,
-            size,
+            letter: front.letter,
+            addr: found.addr,
+            size: found.above + 1,
             line,
         })
     }

@@ -1,11 +1,10 @@
 //! The next line of a text that matters.
 
-ghost use Rattle.std.specs.Prelude.{◌≡◌, ◌≤◌, length, drop, None, IfSome, IfNone};
+ghost use Rattle.std.specs.Prelude.{◌≡◌, None, IfSome, IfNone};
 ghost use Rattle.xl_lackey.specs.Usual.{judged_line};
 ghost use Rattle.xl_lackey.specs.Scans.{IsFirstLine, Scans};
 
 use crate::line::{Verdict, judge};
-use crate::usual::usual_line;
 use memchr::memchr;
 
 /// How far the lines of a text were read: up to its first line that isn't skipped, or over all that
@@ -26,7 +25,7 @@ pub(crate) fn read_lines(text: &[u8], before: u64) -> Scan
 {
     let mut used = 0;
     let mut lines = before;
-    while let Some((count, verdict)) = next_line(text, used) {
+    while let Some((count, verdict)) = first_line(&text[used..]) {
         used += count;
         lines = lines.wrapping_add(1);
         match verdict {
@@ -45,30 +44,12 @@ pub(crate) fn read_lines(text: &[u8], before: u64) -> Scan
     }
 }
 
-/// The first line from a place on that a newline ends: how many bytes it has with the newline, and
-/// what it is.
-#[inline(never)]
-fn next_line(text: &[u8], from: usize) -> Option<(usize, Verdict)>
-    requires { from ≤ length text.now }
-    ensures some { IfSome result (λ r. IsFirstLine (drop from text.now) r.0 r.1) }
-    ensures none { IfNone result (judged_line (drop from text.now) ≡ None) }
-{
-    let rest = &text[from..];
-    match usual_line(rest) {
-        Some(found) => Some(found),
-        None => any_line(rest),
-    }
-}
-
-/// The first line of a text that a newline ends, in whatever form: how many bytes it has with the
-/// newline, and what it is. Out of line: inlined, its search would be set up for every line.
-#[inline(never)]
-fn any_line(text: &[u8]) -> Option<(usize, Verdict)>
+/// The first line of a text that a newline ends: how many bytes it has with the newline, and what
+/// it is.
+fn first_line(text: &[u8]) -> Option<(usize, Verdict)>
     ensures some { IfSome result (λ r. IsFirstLine text.now r.0 r.1) }
     ensures none { IfNone result (judged_line text.now ≡ None) }
 {
-    match memchr(b'\n', text) {
-        Some(at) => Some((at + 1, judge(&text[..at]))),
-        None => None,
-    }
+    let at = memchr(b'\n', text)?;
+    Some((at + 1, judge(&text[..at])))
 }

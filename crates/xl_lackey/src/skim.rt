@@ -4,8 +4,9 @@ ghost use Rattle.std.specs.Prelude.{◌≡◌, ◌+◌, ◌-◌, ◌^◌, ◌<�
 ghost use Rattle.xl_lackey.specs.Skims.{batch_size, read_of, accesses_near, runs_both, HasRoom, IsCounted, IsRecordLine, IsSure, Runs};
 
 use crate::batch::{Batch, ROOM, put};
+use crate::front::front_of;
+use crate::near::{NEAR, near_numbers};
 use crate::prefixes::PrefixCache;
-use crate::usual::{NEAR, front_of, near_numbers};
 use xl_model::Kind;
 
 /// An access of the trace.
@@ -39,7 +40,7 @@ pub(crate) struct Near {
 /// page. `None`: not taken.
 #[inline(always)]
 fn near_record(text: &[u8]) -> Option<Near>
-    requires { 17 ≤ length text.now }
+    requires { 23 ≤ length text.now }
     ensures line { IfSome result (λ near. IsRecordLine text.now near.used (read_of near)) }
     ensures count { IfSome result IsCounted }
 {

@@ -1,6 +1,6 @@
 //! Memory by itself.
 
-ghost use Rattle.std.specs.Prelude.{◌≡◌, ◌+◌, ◌*◌, ◌%◌, ◌^◌, ◌<◌, ◌≤◌, length, slice_index, slice_set, replicate, IfOk};
+ghost use Rattle.std.specs.Prelude.{◌≡◌, ◌+◌, ◌*◌, ◌%◌, ◌^◌, ◌<◌, ◌≤◌, length, slice_set, replicate, IfOk};
 
 use crate::bus::{Bus, line_of};
 use std::alloc::Global;
@@ -36,14 +36,6 @@ impl PhysMem {
     {
         let words = vec![in alloc; 0u64; words]?;
         Ok(PhysMem { words, loads: 0 })
-    }
-
-    /// Word `at`, without a load.
-    pub fn peek(&self, at: usize) -> u64
-        requires { at < length self.now.words }
-        ensures { result ≡ slice_index self.now.words at }
-    {
-        self.words[at]
     }
 
     /// Puts `value` in place of word `at`, without a load.

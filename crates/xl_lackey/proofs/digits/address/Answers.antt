@@ -4,10 +4,9 @@ use Rattle.xl_lackey.proofs.digits.address.Goals as goal
 
 pub loop-at-init : goal.loop-at-init
 loop-at-init c = record {
-  few = omega (arith, c.first_digits-value.ensures.few);
-  small = c.first_digits-value.ensures.small;
-  same = after_first c.args.text.now c.first_digits-value.result.0 c.first_digits-value.result.1 c.first_digits-value.ensures.value
-      c.first_digits-value.ensures.within (omega (arith, c.first_digits-value.ensures.few));
+  few = omega (arith, c.requires.few);
+  small = c.requires.small;
+  same = after_first c.args.text.now c.args.first c.args.count c.requires.value c.requires.within (omega (arith, c.requires.few));
 }
 
 pub overflow_mul-value : goal.overflow_mul-value

@@ -7,6 +7,6 @@ returns c =
     let text = c.args.text.now in
     let bytes = All-from_get_or IsByte text 0 (λ i h. (c.type_inv.text i).fits) in record {
       kept = All-set (IsPrefix c.args.extra) c.args.prefixes.now c.place_of.result _
-          (page_kept c.args.extra text c.args.kind c.args.page c.word-word.result c.pair-front.result (omega (arith, c.requires.long, c.requires.few)) bytes
-          c.requires.begins c.word-word.ensures c.pair-front.ensures) c.requires.kept;
+          (page_kept c.args.extra text c.args.kind c.args.page c.word-word.result c.quad-front.result (omega (arith, c.requires.long, c.requires.few)) bytes
+          c.requires.begins c.word-word.ensures c.quad-front.ensures) c.requires.kept;
     }

@@ -1,6 +1,6 @@
 use Rattle.xl_lackey.proofs.Common.{◌+◌, arith, refl}
 use Rattle.xl_lackey.proofs.NearLineLemmas.{comma_at, numbers_at}
-use Rattle.xl_lackey.proofs.usual.near_numbers.Goals as goal
+use Rattle.xl_lackey.proofs.near.near_numbers.Goals as goal
 
 pub returns-then-stays_in_page-clause-numbers : goal.returns-then-stays_in_page-clause-numbers
 returns-then-stays_in_page-clause-numbers c =
@@ -8,5 +8,5 @@ returns-then-stays_in_page-clause-numbers c =
     let addr = c.in_ok-addr.addr in
     let above = c.in-Some.above in
     let address = comma_at text addr 8 c.in_ok-addr.ensures.value (omega arith) (omega arith) (omega arith) c.in-Some.ensures.comma in
-    numbers_at text _ addr 8 (above + 1) above 1 (omega arith) refl (omega arith) refl (omega (arith, c.in-Some.ensures.small)) (omega arith)
-    (omega (arith, c.in_ok-addr.ensures.small)) address c.in-Some.ensures.value c.in-Some.ensures.newline
+    numbers_at text _ addr 8 (above + 1) above 1 (omega arith) refl refl (omega (arith, c.in-Some.ensures.small)) (omega arith)
+    (c.if-stays_in_page.ensures refl) address c.in-Some.ensures.value c.in-Some.ensures.newline
