@@ -2,7 +2,7 @@
 use Rattle.xl_lackey.proofs.Common.{◌*◌, ◌++◌, ◌+◌, ◌/◌, ◌<◌, ◌^◌, ◌∙◌, ◌∷◌, ◌≡◌, ◌≤◌, ◌⊎◌, [], accesses_at, All-drop, All-from_recursion, All-head, All-tail, All-take, ap, append_assoc, ap₂, arith, borders, codes, drop, drop-append-add, drop-take, false, Fetch, first_kind, Found, four_bytes, get_or, get_or-drop, get_or-take, hex_digit, hex_value, IfSome, inl, inr, is_modify, IsBeginning, IsFirstLine, IsPrefix, IsRecordLine, Kind, length, length-append, length-drop, length-take-le, Letter, List, number_l, Option, option_and_then, places, Prefix, refl, same_Some, size_in, slice_index, Some, subst, sym, take, take-add, take-append-add, take-append-drop, take-take, take_more, usual_front, ℕ}
 use Rattle.std.specs.List.{All}
 use Rattle.xl_lackey.proofs.AddressLemmas.{digit_and_rest, hex_more}
-use Rattle.xl_lackey.proofs.NearLineLemmas.{comma_at, numbers_at}
+use Rattle.xl_lackey.proofs.NearLineLemmas.{comma_at, near_fits, numbers_at}
 use Rattle.xl_lackey.proofs.OwnFormLemmas.{front_length}
 use Rattle.xl_lackey.proofs.TableLemmas.{digit_bound}
 use Rattle.xl_lackey.specs.declared.reference.Letter.TheVariants as letter
@@ -197,7 +197,7 @@ kept_line extra text low_text size_text kept at above size digits is few long by
     let address = comma_at numbers addr (8 + extra) value (omega (arith, size_numbers, b.many, long, length-drop (8 + extra) text)) (omega arith) (omega (arith, few)) at_comma in
     let tail : size_text ≡ drop (8 + extra + 1) numbers = size_is ∙ ap (λ (k : ℕ). drop k text) (omega arith) ∙ following (8 + extra + 1) in
     let found = numbers_at numbers size_text addr (8 + extra) size above digits enough tail some little
-    (omega (arith, b.small, small)) in_page address sizes newline in
+    (near_fits addr size (omega (arith, b.small, small)) little) address sizes newline in
     let as_text : IsFirstLine text (8 + extra + digits + 5) (Found l addr (above + 1)) =
     subst (λ (t : List ℕ). IsFirstLine t (8 + extra + digits + 5) (Found l addr (above + 1))) (sym whole) (found.line l) in
     let line : IsFirstLine text (13 + extra + digits) (Found l addr (above + 1)) =

@@ -1,13 +1,13 @@
-//! Lines in the form that Lackey itself writes, whose bytes lie in one page: nearly all lines of a
-//! trace.
+//! Lines in the form that Lackey itself writes, with a short size: nearly all lines of a trace.
 
-ghost use Rattle.std.specs.Prelude.{◌≡◌, ◌+◌, ◌^◌, ◌<◌, ◌≤◌, length, take, Some, IfSome};
-ghost use Rattle.xl_lackey.specs.Accesses.{borders};
+ghost use Rattle.std.specs.Prelude.{◌≡◌, ◌^◌, ◌<◌, ◌≤◌, length, take, Some, IfSome};
 ghost use Rattle.xl_lackey.specs.Digits.{hex_value};
 ghost use Rattle.xl_lackey.specs.Nears.{IsNumbers};
+ghost use Rattle.xl_lackey.specs.Scans.{IsFirstLine};
 
-use crate::access::stays_in_page;
 use crate::digits::{address, eight_digits, near_digit, near_size};
+use crate::front::front_of;
+use crate::line::{Verdict, fits};
 
 /// The most bytes of a line that is read here, with an address of 16 digits.
 pub(crate) const NEAR: usize = 23;
@@ -21,26 +21,40 @@ pub(crate) struct Numbers {
     pub(crate) used: usize,
 }
 
-/// The numbers of a line with an address of eight digits or more and a size of one digit or of two,
-/// whose bytes lie in one page. Those of eight digits and of one, which most lines have, are looked
-/// for first, since all is at fixed places there.
+/// The first line of a text, where it is such a line: how many bytes it has with its newline, and
+/// what it is. `None`: use the general reader.
+#[inline(always)]
+pub(crate) fn near_line(text: &[u8]) -> Option<(usize, Verdict)>
+    ensures { IfSome result (λ r. IsFirstLine text.now r.0 r.1) }
+{
+    if text.len() < NEAR {
+        return None;
+    }
+    let (front, numbers) = front_of(text)?;
+    let found = near_numbers(numbers)?;
+    let verdict = Verdict::Found {
+        letter: front.letter,
+        addr: found.addr,
+        size: found.above + 1,
+    };
+    Some((found.used, verdict))
+}
+
+/// The numbers of a line with an address of eight digits or more and a size of one digit or of two.
+/// Those of eight digits and of one, which most lines have, are looked for first, since all is at
+/// fixed places there.
 #[inline(always)]
 pub(crate) fn near_numbers(text: &[u8]) -> Option<Numbers>
     requires { 20 ≤ length text.now }
-    ensures numbers { IfSome result (IsNumbers text.now) }
-    ensures page { IfSome result (λ n. borders n.addr (n.above + 1) ≡ 0) }
+    ensures { IfSome result (IsNumbers text.now) }
 {
     let addr = eight_digits(text)?;
     if let Some(above) = near_digit(text) {
-        return if stays_in_page(addr, above) {
-            Some(Numbers {
-                addr,
-                above,
-                used: 14,
-            })
-        } else {
-            None
-        };
+        return Some(Numbers {
+            addr,
+            above,
+            used: 14,
+        });
     }
     other_numbers(text, addr)
 }
@@ -51,16 +65,14 @@ fn other_numbers(text: &[u8], eight: u64) -> Option<Numbers>
     requires long { 20 ≤ length text.now }
     requires value { hex_value 0 (take 8 text.now) ≡ Some eight }
     requires small { eight < 16 ^ 8 }
-    ensures numbers { IfSome result (IsNumbers text.now) }
-    ensures page { IfSome result (λ n. borders n.addr (n.above + 1) ≡ 0) }
+    ensures { IfSome result (IsNumbers text.now) }
 {
     let (addr, comma) = address(text, eight, 8)?;
     let (size, digits) = near_size(&text[comma + 1..])?;
-    let above = size - 1;
-    if stays_in_page(addr, above) {
+    if fits(addr, size) {
         Some(Numbers {
             addr,
-            above,
+            above: size - 1,
             used: comma + digits + 5,
         })
     } else {

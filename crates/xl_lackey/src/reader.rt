@@ -8,9 +8,8 @@ ghost use Rattle.xl_lackey.specs.Skims.{Skimmed};
 
 use crate::batch::Batch;
 use crate::fault::Fault;
-use crate::front::front_of;
 use crate::line::{Verdict, judge};
-use crate::near::{NEAR, near_numbers};
+use crate::near::near_line;
 use crate::next::Next;
 use crate::prefixes::PrefixCache;
 use crate::reference::Reference;
@@ -138,9 +137,8 @@ impl Reader {
         }
     }
 
-    /// The next record, where its whole line is held, in Lackey's own form, and its bytes lie in one
-    /// page. None: nothing was read, ask `next`. The record is returned in registers, where `next`
-    /// returns it through memory.
+    /// The next record, where its whole line is held, in Lackey's own form. None: nothing was read,
+    /// ask `next`. The record is returned in registers, where `next` returns it through memory.
     #[inline(always)]
     pub fn next_near(&mut self) -> Option<Reference>
         ensures some { IfSome result (λ r. Answers (Next.Found r) self.old self.new) }
@@ -149,17 +147,16 @@ impl Reader {
         let None = self.bad_line() else {
             return None;
         };
-        if self.held().len() < NEAR {
+        let (used, verdict) = near_line(self.held())?;
+        let Verdict::Found { letter, addr, size } = verdict else {
             return None;
-        }
-        let (front, numbers) = front_of(self.held())?;
-        let found = near_numbers(numbers)?;
+        };
         let line = self.lines().wrapping_add(1);
-        self.pass(found.used, line);
+        self.pass(used, line);
         Some(Reference {
-            letter: front.letter,
-            addr: found.addr,
-            size: found.above + 1,
+            letter,
+            addr,
+            size,
             line,
         })
     }

@@ -5,6 +5,7 @@ ghost use Rattle.xl_lackey.specs.Usual.{judged_line};
 ghost use Rattle.xl_lackey.specs.Scans.{IsFirstLine, Scans};
 
 use crate::line::{Verdict, judge};
+use crate::near::near_line;
 use memchr::memchr;
 
 /// How far the lines of a text were read: up to its first line that isn't skipped, or over all that
@@ -50,6 +51,9 @@ fn first_line(text: &[u8]) -> Option<(usize, Verdict)>
     ensures some { IfSome result (λ r. IsFirstLine text.now r.0 r.1) }
     ensures none { IfNone result (judged_line text.now ≡ None) }
 {
+    if let Some(found) = near_line(text) {
+        return Some(found);
+    }
     let at = memchr(b'\n', text)?;
     Some((at + 1, judge(&text[..at])))
 }

@@ -3,6 +3,7 @@
 ghost use Rattle.std.specs.Prelude.{◌≡◌, ◌+◌, ◌-◌, ◌^◌, ◌<◌, ◌≤◌, ◌++◌, length, take, drop, true, IfSome};
 ghost use Rattle.xl_lackey.specs.Skims.{batch_size, read_of, accesses_near, runs_both, HasRoom, IsCounted, IsRecordLine, IsSure, Runs};
 
+use crate::access::stays_in_page;
 use crate::batch::{Batch, ROOM, put};
 use crate::front::front_of;
 use crate::near::{NEAR, near_numbers};
@@ -46,6 +47,9 @@ fn near_record(text: &[u8]) -> Option<Near>
 {
     let (front, numbers) = front_of(text)?;
     let found = near_numbers(numbers)?;
+    if !stays_in_page(found.addr, found.above) {
+        return None;
+    }
     Some(Near {
         used: found.used,
         va: found.addr,

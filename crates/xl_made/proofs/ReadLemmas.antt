@@ -4,11 +4,11 @@ use Rattle.std.proofs.lemmas.Bool.Decides.{nat_tests}
 use Rattle.std.specs.Prelude.{if◌then◌else◌, map, Some}
 use Rattle.xl_lackey.proofs.AddressLemmas.{hex_more}
 use Rattle.xl_lackey.proofs.FirstLineLemmas.{first_record}
-use Rattle.xl_lackey.proofs.NearLineLemmas.{comma_at}
+use Rattle.xl_lackey.proofs.NearLineLemmas.{comma_at, near_fits}
 use Rattle.xl_lackey.specs.Accesses.{accesses_at, borders, starts}
 use Rattle.xl_lackey.specs.Answers.{with_record}
 use Rattle.xl_lackey.specs.Digits.{hex_digit, hex_value}
-use Rattle.xl_lackey.specs.Lines.{address_in, fits}
+use Rattle.xl_lackey.specs.Lines.{address_in}
 use Rattle.xl_lackey.specs.Stream.{next_line, records}
 use Rattle.xl_lackey.specs.declared.skim.Access.{Access}
 use Rattle.xl_model.specs.declared.address.Kind.{Kind}
@@ -41,17 +41,14 @@ address_read a rest h =
 abbrev ReadsAs : ℕ → Letter → ℕ → ℕ → List ℕ → List ℕ → Type 0
 ReadsAs n l a s text rest = records n (lines_of text) ≡ with_record (record { letter = l; addr = a; size = s; line = next_line n }) (records (next_line n) (lines_of rest))
 
-small_fits : (a s : ℕ) → a < 2 ^ 32 → s < 100 → fits a s ≡ true
-small_fits a s h k = grind (arith, nat_tests)
-
 -- a line of a size that made records have
 line_of_4 : (n : ℕ) (l : Letter) (a : ℕ) (rest : List ℕ) → a < 2 ^ 32 → ReadsAs n l a 4 (usual_front l ++ (hex_digits 8 a ++ 44 ∷ 52 ∷ 10 ∷ rest)) rest
 line_of_4 n l a rest h =
-    first_record n l (hex_digits 8 a ++ 44 ∷ 52 ∷ 10 ∷ rest) (52 ∷ 10 ∷ rest) rest a 4 1 (address_read a (52 ∷ 10 ∷ rest) h) refl refl (small_fits a 4 h (omega arith))
+    first_record n l (hex_digits 8 a ++ 44 ∷ 52 ∷ 10 ∷ rest) (52 ∷ 10 ∷ rest) rest a 4 1 (address_read a (52 ∷ 10 ∷ rest) h) refl refl (near_fits a 4 (omega (arith, h)) (omega arith))
 
 line_of_8 : (n : ℕ) (l : Letter) (a : ℕ) (rest : List ℕ) → a < 2 ^ 32 → ReadsAs n l a 8 (usual_front l ++ (hex_digits 8 a ++ 44 ∷ 56 ∷ 10 ∷ rest)) rest
 line_of_8 n l a rest h =
-    first_record n l (hex_digits 8 a ++ 44 ∷ 56 ∷ 10 ∷ rest) (56 ∷ 10 ∷ rest) rest a 8 1 (address_read a (56 ∷ 10 ∷ rest) h) refl refl (small_fits a 8 h (omega arith))
+    first_record n l (hex_digits 8 a ++ 44 ∷ 56 ∷ 10 ∷ rest) (56 ∷ 10 ∷ rest) rest a 8 1 (address_read a (56 ∷ 10 ∷ rest) h) refl refl (near_fits a 8 (omega (arith, h)) (omega arith))
 
 -- the parts of a line, one after another
 abbrev line_with : Letter → ℕ → ℕ → List ℕ → List ℕ
