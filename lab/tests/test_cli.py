@@ -37,6 +37,11 @@ def test_the_nearest_subcommand_is_named(xlab):
     assert ended.returncode == Status.USAGE and "meant version?" in ended.stderr
 
 
+def test_a_word_near_to_none_has_no_hint(xlab):
+    ended = xlab("foo")
+    assert ended.returncode == Status.USAGE and "meant" not in ended.stderr
+
+
 def test_no_words_are_a_usage_fault(xlab):
     assert xlab().returncode == Status.USAGE
 

@@ -74,6 +74,7 @@ MISTAKES = [
     usage("--version", "xlab version", words=("--version",)),
     usage("a word of one letter", "-x is no word of xlate", "docs/FORMATS.md", words=(*FILES, "-x")),
     usage("a word misspelt", "meant --trace?", words=(*FILES[:2], "--traces", "t")),
+    usage("a word of another form", "--sets is no word", "a word of xlate curve", words=(*FILES[:2], "--sets", "4")),
     usage("--make beside a trace", "--make goes with neither", words=(*FILES[:2], "--make", "10", "--trace", "t")),
     usage("--make too large", "1 to 1048576", words=(*FILES[:2], "--make", "2000000")),
     usage("--make with a letter", "--make 10k: a number", words=(*FILES[:2], "--make", "10k")),

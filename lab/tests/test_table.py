@@ -72,6 +72,12 @@ def test_figures_per_thousand_instructions(xlab, made):
     assert list(found["two"].values()) == ["20.0", "2.5", "6.25"]
 
 
+@pytest.mark.parametrize("column", ["mpki", "l1-mpki", "rpki", "instructions"])
+def test_figures_by_instructions_want_their_number(column, xlab, made):
+    ended = xlab("table", made("a.json", TWO), "--columns", column)
+    assert ended.returncode == Status.USAGE and "--trace FILE counts them" in ended.stderr and not ended.stdout
+
+
 @pytest.mark.parametrize("how, walks, accesses", [("counted", "10", "1000"), ("once", "8", "998"), ("out", "6", "998")])
 def test_first_touches(how, walks, accesses, xlab, made):
     found = figures(xlab, made("a.json", TWO), "--columns", "walks,accesses,first", "--first-touches", how)

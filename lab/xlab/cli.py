@@ -8,6 +8,7 @@ import functools
 import importlib
 import os
 import pkgutil
+import re
 import signal
 import sys
 import traceback
@@ -46,8 +47,9 @@ class Parser(argparse.ArgumentParser):
             for action in self._actions
             for word in (*action.option_strings, *(action.choices or ()))
         ]
-        unknown = [word.strip("'") for word in message.split() if word.strip("'") not in known]
-        for word in unknown if "unrecognized" in message or "invalid choice" in message else ():
+        said = re.findall(r"invalid choice: '([^']*)'", message)
+        said = said or message.partition("unrecognized arguments: ")[2].split()
+        for word in [it for it in said if it not in known]:
             near = difflib.get_close_matches(word, map(str, known), 1)
             if near:
                 return f" (meant {near[0]}?)"

@@ -246,9 +246,19 @@ def checked(names: Iterable[str], samples: list[Sample], base: str | None) -> li
             raise Fault(f"column {name} wants --base ROW", Status.USAGE)
         if name.removesuffix(AGAINST) not in known:
             raise Fault(f"{name} is no column{nearest(name, known)}; `--help` lists them", Status.USAGE)
+        if _is_per_instruction(name.removesuffix(AGAINST)) and all(it.instructions is None for it in samples):
+            raise Fault(
+                f"column {name} is by the trace's instructions: --trace FILE counts them, or --instructions N says them",
+                Status.USAGE,
+            )
         if of_curves(samples) and name.removesuffix(AGAINST) not in {"accesses", *formrows.WIDTHS}:
             raise Fault(f"curves have no {name}: their columns are accesses, and misses by width, w1 to w64", Status.USAGE)
     return wanted
+
+
+def _is_per_instruction(name: str) -> bool:
+    """Whether a column has no value without the number of instructions."""
+    return name in MEASURES and (name == "instructions" or name.split("-")[-1] in ("mpki", "rpki"))
 
 
 def of_curves(samples: list[Sample]) -> bool:

@@ -90,6 +90,9 @@ def _hint(word: str, known: tuple[str, ...]) -> str:
         return ": `xlab table` makes CSV and Markdown of what --json prints"
     if word in ("-o", "--out", "--output"):
         return ": the rows go to standard output: > FILE"
+    forms = [form for form, own in KNOWN.items() if word in own]
+    if forms:
+        return ": it is a word of " + " and ".join("xlate" if it == "plain" else f"xlate {it}" for it in forms)
     return nearest(word, known)
 
 
