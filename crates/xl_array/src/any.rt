@@ -1,6 +1,6 @@
 //! A TLB array of a width that is known when the program runs.
 
-ghost use Rattle.std.specs.Prelude.{ℕ, true, false, is_some, ◌≡◌, ◌<◌, ◌≤◌, ◌^◌, ◌+◌, ◌*◌, ◌%◌, None, IfSome, IfNone, IfOk};
+ghost use Rattle.std.specs.Prelude.{ℕ, true, false, is_some, ◌≡◌, ◌↔◌, ◌<◌, ◌≤◌, ◌^◌, ◌+◌, ◌*◌, ◌%◌, None, IfSome, IfNone, IfOk};
 ghost use Rattle.xl_model.specs.Tlb.{array_filled, array_hit, found_as, opening_array, serves_kind, takes_order, is_purged, reaches_leaf, array_without, leaves_in_sets};
 ghost use Rattle.xl_model.specs.declared.address.Order.TheVariants as order_of;
 ghost use Rattle.xl_model.specs.Base.{one_if};
@@ -82,7 +82,7 @@ fn lowered(held: u64, left: u64) -> u64
 
 /// Whether there may be leaves above 4 KiB, with one more leaf of this order.
 pub fn with_order(large: bool, order: Order) -> bool
-    ensures old { result ≡ false → large ≡ false }
+    ensures same { order ≡ order_of.K4 → result ≡ large }
     ensures new { result ≡ false → order ≡ order_of.K4 }
 {
     match order {
@@ -325,7 +325,7 @@ impl AnyArray {
 
     /// Whether its sets are a multiple of eight.
     pub fn has_eights(&self) -> bool
-        ensures { result ≡ true → self.now.spec.sets % 8 ≡ 0 }
+        ensures { (result ≡ true) ↔ (self.now.spec.sets % 8 ≡ 0) }
     {
         self.places.are_by_eight()
     }

@@ -340,7 +340,7 @@ impl<const W: usize> Array<W> {
         requires { IsFit leaf }
         ensures array { self.new ≡ array_without (is_same leaf) self.old }
         ensures left { result + leaves_in_sets self.new.sets ≡ leaves_in_sets self.old.sets }
-        ensures most { result ≤ 64 * 2 ^ 32 }
+        ensures most { result ≤ 64 }
     {
         let set = self.spec.set_of(leaf.first, leaf.order);
         let tag = tag_of(leaf.space, leaf.first, leaf.order);
@@ -353,7 +353,7 @@ impl<const W: usize> Array<W> {
         requires { IsFit leaf }
         ensures array { self.new ≡ array_without (is_equal leaf) self.old }
         ensures left { result + leaves_in_sets self.new.sets ≡ leaves_in_sets self.old.sets }
-        ensures most { result ≤ 64 * 2 ^ 32 }
+        ensures most { result ≤ 64 }
     {
         let set = self.spec.set_of(leaf.first, leaf.order);
         let tag = tag_of(leaf.space, leaf.first, leaf.order);

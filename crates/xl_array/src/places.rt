@@ -1,6 +1,6 @@
 //! Where the leaves of an array are.
 
-ghost use Rattle.std.specs.Prelude.{true, ◌≡◌, ◌<◌, ◌%◌, ◌^◌};
+ghost use Rattle.std.specs.Prelude.{◌↔◌, true, ◌≡◌, ◌<◌, ◌%◌, ◌^◌};
 ghost use Rattle.xl_model.specs.Tlb.{serves_as, set_number, takes_order};
 ghost use Rattle.xl_model.specs.declared.address.Order.TheVariants as order;
 ghost use Rattle.xl_array.specs.Arrays.{HasMask, IsCommon};
@@ -75,7 +75,7 @@ impl Places {
 
     /// Whether the sets are a multiple of eight.
     pub fn are_by_eight(&self) -> bool
-        ensures { result ≡ true → self.now.sets % 8 ≡ 0 }
+        ensures { (result ≡ true) ↔ (self.now.sets % 8 ≡ 0) }
     {
         self.spec.sets % 8 == 0
     }

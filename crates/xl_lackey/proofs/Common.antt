@@ -21,7 +21,7 @@ pub use Rattle.xl_lackey.specs.Lines.{address_in, after, before, decimal_value, 
 unfoldable pub use Rattle.xl_lackey.specs.Lines.{judge}
 pub use Rattle.xl_lackey.specs.PrefixCache.{four_bytes, IsBeginning, IsPrefix}
 pub use Rattle.xl_lackey.specs.Scans.{IsFirstLine}
-pub use Rattle.xl_lackey.specs.Skims.{accesses_in, accesses_near, all_accesses, batch_size, Gathered, HasAccesses, IsRecordLine, IsSure, lines_after, pair, read_of, Runs, runs_both, Skimmed, Skims, Taken, Takes, with_records}
+pub use Rattle.xl_lackey.specs.Skims.{accesses_in, accesses_in_page, all_accesses, batch_size, Gathered, HasAccesses, IsRecordLine, IsSure, lines_after, pair, read_of, Runs, runs_both, Skimmed, Skims, Taken, Takes, with_records}
 pub use Rattle.xl_lackey.specs.Stream.{due, first_due, Left, left, left_by, MayCome, next_line, of_due, Record, records, State, unless_bad, with_verdict}
 pub use Rattle.xl_lackey.specs.Usual.{first_kind, is_modify, judged, judged_line, usual_front}
 pub use Rattle.xl_lackey.specs.declared.line.Verdict.{Verdict}

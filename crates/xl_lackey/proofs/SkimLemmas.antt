@@ -1,5 +1,5 @@
 -- Records taken one after another.
-use Rattle.xl_lackey.proofs.Common.{◌++◌, ◌+◌, ◌<◌, ◌^◌, ◌∙◌, ◌∷◌, ◌≡◌, ◌≤◌, [], Access, accesses_in, accesses_near, all_accesses, ap, append-nil, append_assoc, ap₂, arith, Bad, Bool, drop, drop-drop, false, Found, Gives, HasAccesses, IsFirstLine, IsRecordLine, IsSure, Kind, Left, length, length-append, length-drop, length-set, Letter, lines_after, lines_by, lines_of, List, map, map-append, next_line, None, pair, Record, records, refl, Run, Runs, runs_both, set, Skimmed, Skims, Skipped, State, Store, sym, take, take-set-le, take_more_set, Taken, Takes, true, Verdict, with_record, with_records, ℕ}
+use Rattle.xl_lackey.proofs.Common.{◌++◌, ◌+◌, ◌<◌, ◌^◌, ◌∙◌, ◌∷◌, ◌≡◌, ◌≤◌, [], Access, accesses_in, accesses_in_page, all_accesses, ap, append-nil, append_assoc, ap₂, arith, Bad, Bool, drop, drop-drop, false, Found, Gives, HasAccesses, IsFirstLine, IsRecordLine, IsSure, Kind, Left, length, length-append, length-drop, length-set, Letter, lines_after, lines_by, lines_of, List, map, map-append, next_line, None, pair, Record, records, refl, Run, Runs, runs_both, set, Skimmed, Skims, Skipped, State, Store, sym, take, take-set-le, take_more_set, Taken, Takes, true, Verdict, with_record, with_records, ℕ}
 use Rattle.xl_model.specs.Base.{one_if}
 use Rattle.xl_lackey.proofs.SplitLemmas.{first_is, IsFirst, on_from, records_step}
 use Rattle.xl_lackey.proofs.StepLemmas.{left_passed}
@@ -156,7 +156,7 @@ put_first : (slots : List Access) (at : ℕ) (a b : Access) → at + 2 ≤ lengt
 put_first slots at a b h = take-set-le (at + 1) (set slots at a) (at + 1) b (omega arith) ∙ take_more_set slots at a (omega (arith, h))
 
 pub put_counted : (slots : List Access) (at count va : ℕ) (kind : Kind) (modify : Bool) → at + 2 ≤ length slots → count ≡ 1 + one_if modify
-    → take (at + count) (set (set slots at (record { va = va; kind = kind })) (at + 1) (record { va = va; kind = Store })) ≡ take at slots ++ accesses_near modify va kind
+    → take (at + count) (set (set slots at (record { va = va; kind = kind })) (at + 1) (record { va = va; kind = Store })) ≡ take at slots ++ accesses_in_page modify va kind
 put_counted slots at count va kind true h e =
     let a : Access = record { va = va; kind = kind } in
     let b : Access = record { va = va; kind = Store } in

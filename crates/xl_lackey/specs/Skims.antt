@@ -5,7 +5,7 @@ use Rattle.xl_model.specs.declared.address.Kind.{Kind}
 use Rattle.xl_model.specs.declared.address.Kind.TheVariants.{Store}
 use Rattle.xl_text.specs.Texts.{lines_by, lines_of}
 use Rattle.xl_lackey.specs.declared.skim.Access.{Access}
-use Rattle.xl_lackey.specs.declared.skim.Near.{Near}
+use Rattle.xl_lackey.specs.declared.skim.PageRecord.{PageRecord}
 use Rattle.xl_lackey.specs.declared.skim.Run.{Run}
 use Rattle.xl_lackey.specs.declared.line.Verdict.{Verdict}
 use Rattle.xl_lackey.specs.declared.line.Verdict.TheVariants.{Skipped, Found, Bad}
@@ -27,16 +27,16 @@ all_accesses [] = []
 all_accesses (r ∷ rs) = accesses_in r ++ all_accesses rs
 
 -- The access of a record in one page, and the store after it where the record is a modify.
-abbrev pub accesses_near : Bool → ℕ → Kind → List Access
-accesses_near true va k = record { va = va; kind = k } ∷ record { va = va; kind = Store } ∷ []
-accesses_near false va k = record { va = va; kind = k } ∷ []
+abbrev pub accesses_in_page : Bool → ℕ → Kind → List Access
+accesses_in_page true va k = record { va = va; kind = k } ∷ record { va = va; kind = Store } ∷ []
+accesses_in_page false va k = record { va = va; kind = k } ∷ []
 
 -- The same of what was read of a line.
-abbrev pub read_of : Near → List Access
-read_of n = accesses_near n.is_modify n.va n.kind
+abbrev pub read_of : PageRecord → List Access
+read_of n = accesses_in_page n.is_modify n.va n.kind
 
 -- It is known how many accesses these are.
-abbrev pub IsCounted : Near → Type 0
+abbrev pub IsCounted : PageRecord → Type 0
 IsCounted n = n.count ≡ 1 + one_if n.is_modify
 
 -- A line is a record with these accesses.

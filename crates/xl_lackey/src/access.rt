@@ -22,11 +22,11 @@ pub fn nth_access(reference: &Reference, i: u32) -> Option<(u64, Kind)>
         Letter::L => access(reference, Kind::Load, i),
         Letter::S => access(reference, Kind::Store, i),
         Letter::M => {
-            let prefixes = borders(reference) + 1;
-            if i < prefixes {
+            let pages = borders(reference) + 1;
+            if i < pages {
                 access(reference, Kind::Load, i)
             } else {
-                access(reference, Kind::Store, i - prefixes)
+                access(reference, Kind::Store, i - pages)
             }
         }
     }

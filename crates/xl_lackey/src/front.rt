@@ -52,7 +52,8 @@ const MODIFY: Front = Front {
     count: 2,
 };
 
-/// Prefix table by letter mod 8 (branch-free); unused slots hold FETCH.
+/// Prefix table by the second byte mod 8, so without a branch: a letter, or the blank of a fetch at
+/// place 0. Other places hold FETCH too.
 const FRONTS: [Front; 8] = [FETCH, FETCH, FETCH, STORE, LOAD, MODIFY, FETCH, FETCH];
 
 /// The letter of a record with the blanks around it, as Lackey writes them, and what follows them.

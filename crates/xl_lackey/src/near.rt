@@ -1,13 +1,15 @@
 //! Lines in the form that Lackey itself writes, with a short size: nearly all lines of a trace.
 
-ghost use Rattle.std.specs.Prelude.{◌≡◌, ◌^◌, ◌<◌, ◌≤◌, length, take, Some, IfSome};
+ghost use Rattle.std.specs.Prelude.{◌≡◌, ◌+◌, ◌^◌, ◌<◌, ◌≤◌, length, take, Some, IfSome};
+ghost use Rattle.xl_lackey.specs.declared.line.Verdict.TheVariants.{Found};
 ghost use Rattle.xl_lackey.specs.Digits.{hex_value};
 ghost use Rattle.xl_lackey.specs.Nears.{IsNumbers};
 ghost use Rattle.xl_lackey.specs.Scans.{IsFirstLine};
 
 use crate::digits::{address, eight_digits, near_digit, near_size};
 use crate::front::front_of;
-use crate::line::{Verdict, fits};
+use crate::line::fits;
+use crate::reference::Letter;
 
 /// The most bytes of a line that is read here, with an address of 16 digits.
 pub(crate) const NEAR: usize = 23;
@@ -21,23 +23,20 @@ pub(crate) struct Numbers {
     pub(crate) used: usize,
 }
 
-/// The first line of a text, where it is such a line: how many bytes it has with its newline, and
-/// what it is. `None`: use the general reader.
+/// The first line of a text, where it is such a line: its letter and what is after it. `None`: use
+/// the general reader.
 #[inline(always)]
-pub(crate) fn near_line(text: &[u8]) -> Option<(usize, Verdict)>
-    ensures { IfSome result (λ r. IsFirstLine text.now r.0 r.1) }
+pub(crate) fn near_line(text: &[u8]) -> Option<(Letter, Numbers)>
+    ensures line { IfSome result
+        (λ r. IsFirstLine text.now r.1.used (Found r.0 r.1.addr (r.1.above + 1))) }
+    ensures small { IfSome result (λ r. r.1.above < 99) }
 {
     if text.len() < NEAR {
         return None;
     }
     let (front, numbers) = front_of(text)?;
     let found = near_numbers(numbers)?;
-    let verdict = Verdict::Found {
-        letter: front.letter,
-        addr: found.addr,
-        size: found.above + 1,
-    };
-    Some((found.used, verdict))
+    Some((front.letter, found))
 }
 
 /// The numbers of a line with an address of eight digits or more and a size of one digit or of two.

@@ -1,4 +1,8 @@
 //! Line-prefix cache: prefix bytes to page and kind.
+//!
+//! Taken at lines of one access in Lackey's own form, with an address of eight digits, ten or
+//! twelve, where a line of the same kind and page was kept. Saves reading all but the last three
+//! digits and the size.
 
 ghost use Rattle.std.specs.Prelude.{◌≡◌, ◌≢◌, ℕ, ◌+◌, ◌*◌, ◌^◌, ◌<◌, ◌≤◌, ◌∷◌, ◌⊎◌, [], IsTrue, length, take, drop, Some, IfSome, slice_index};
 ghost use Rattle.std.specs.List.{All};
@@ -98,17 +102,17 @@ fn kept_record(prefixes: &[Prefix], text: &[u8], extra: usize) -> Option<(usize,
 {
     let word = word(u8x8::from_slice(&text[extra..]));
     let front = quad(text);
-    let page = &prefixes[place_of(word, front, extra)];
-    if !page.begins(word, front, extra) {
+    let prefix = &prefixes[place_of(word, front, extra)];
+    if !prefix.begins(word, front, extra) {
         return None;
     }
     let at = place_in_page(&text[8 + extra..]);
     let sized = &text[12 + extra..];
     if let Some(above) = size_of_digit(sized) {
-        return Some((14 + extra, page.access(at, above)?));
+        return Some((14 + extra, prefix.access(at, above)?));
     }
     let (size, digits) = near_size(sized)?;
-    Some((13 + extra + digits, page.access(at, size - 1)?))
+    Some((13 + extra + digits, prefix.access(at, size - 1)?))
 }
 
 /// The value of three digits; 4096 or more where one of them is none.
@@ -141,8 +145,7 @@ fn keep_page(prefixes: &mut [Prefix], text: &[u8], extra: usize, page: u64, kind
     };
 }
 
-/// Direct-mapped prefix cache: prefix bytes to page and kind. Of most lines only three digits and a
-/// size are left to read.
+/// Direct-mapped prefix caches, one for each number of digits.
 #[derive(Drop)]
 pub(crate) struct PrefixCache {
     eight: [Prefix; PLACES],
@@ -191,7 +194,8 @@ impl PrefixCache {
 
     /// How many lines to read whether their pages are kept or not, after `kept` lines of kept
     /// pages: one, or many where those are few, since a branch on which line's page is kept is then
-    /// predicted badly; twice as many each time that they are few again.
+    /// predicted badly; twice as many each time that they are few again. Any number is right: it
+    /// decides the speed alone.
     #[inline(always)]
     pub(crate) fn plain_lines(&mut self, kept: u64) -> u64 {
         if kept >= FEW {
@@ -222,7 +226,7 @@ impl PrefixCache {
         }
     }
 
-    /// Keeps the page of a line, where it has eight digits, ten or twelve and is no modify.
+    /// Keeps the page of a line that is no modify and whose address has eight digits, ten or twelve.
     pub(crate) fn keep(&mut self, text: &[u8])
         requires { 19 ≤ length text.now }
     {
@@ -239,7 +243,10 @@ impl PrefixCache {
             keep_page(&mut self.eight, text, 0, eight / 4096, front.kind);
         } else if text[13] == b',' {
             keep_page(&mut self.ten, text, 2, eight / 16, front.kind);
-        } else if let Some(ninth) = hex_digit(numbers[8]) {
+        } else if text[15] == b',' {
+            let Some(ninth) = hex_digit(numbers[8]) else {
+                return;
+            };
             keep_page(&mut self.twelve, text, 4, eight * 16 + ninth, front.kind);
         }
     }

@@ -56,7 +56,8 @@ impl Model for Reader {
 }
 
 impl Reader {
-    /// A reader that was fed nothing yet. All memory that it wants is taken here.
+    /// A reader that was fed nothing yet. All memory that it wants is taken here; `NoMemory` where
+    /// the allocator has none.
     pub fn open(alloc: Global) -> Result<Reader, NoMemory>
         ensures new { IfOk result (λ r. r ≡ fresh) }
         ensures reads { IfOk result (λ r. (rest : List ℕ) → left r rest ≡ records_of rest) }
@@ -98,7 +99,7 @@ impl Reader {
         ensures size { length piece.new.items ≡ 65536 }
     {
         let held = self.end - self.start;
-        put_following(piece.as_mut_slice(), 0, self.held());
+        put_first(piece.as_mut_slice(), self.held());
         swap(&mut self.buf, piece);
         self.start = 0;
         self.end = held + count;
@@ -137,8 +138,9 @@ impl Reader {
         }
     }
 
-    /// The next record, where its whole line is held, in Lackey's own form. None: nothing was read,
-    /// ask `next`. The record is returned in registers, where `next` returns it through memory.
+    /// The next record, where its line is in Lackey's own form with a size below 100 and is at least
+    /// 23 bytes before the end of what is held. None: nothing was read, ask `next`. The record is
+    /// returned in registers, where `next` returns it through memory.
     #[inline(always)]
     pub fn next_near(&mut self) -> Option<Reference>
         ensures some { IfSome result (λ r. Answers (Next.Found r) self.old self.new) }
@@ -147,16 +149,13 @@ impl Reader {
         let None = self.bad_line() else {
             return None;
         };
-        let (used, verdict) = near_line(self.held())?;
-        let Verdict::Found { letter, addr, size } = verdict else {
-            return None;
-        };
+        let (letter, found) = near_line(self.held())?;
         let line = self.lines().wrapping_add(1);
-        self.pass(used, line);
+        self.pass(found.used, line);
         Some(Reference {
             letter,
-            addr,
-            size,
+            addr: found.addr,
+            size: found.above + 1,
             line,
         })
     }
@@ -272,10 +271,10 @@ impl Reader {
     }
 }
 
-/// Writes bytes after the first `held`, over those that were there.
-fn put_following(buf: &mut [u8], held: usize, bytes: &[u8])
-    requires { held + length bytes.now ≤ length buf.old }
-    ensures { buf.new ≡ take held buf.old ++ bytes.now ++ drop (held + length bytes.now) buf.old }
+/// Writes bytes over the first ones.
+fn put_first(buf: &mut [u8], bytes: &[u8])
+    requires { length bytes.now ≤ length buf.old }
+    ensures { buf.new ≡ bytes.now ++ drop (length bytes.now) buf.old }
 {
-    buf[held..held + bytes.len()].copy_from_slice(bytes);
+    buf[..bytes.len()].copy_from_slice(bytes);
 }

@@ -51,8 +51,13 @@ fn first_line(text: &[u8]) -> Option<(usize, Verdict)>
     ensures some { IfSome result (λ r. IsFirstLine text.now r.0 r.1) }
     ensures none { IfNone result (judged_line text.now ≡ None) }
 {
-    if let Some(found) = near_line(text) {
-        return Some(found);
+    if let Some((letter, found)) = near_line(text) {
+        let verdict = Verdict::Found {
+            letter,
+            addr: found.addr,
+            size: found.above + 1,
+        };
+        return Some((found.used, verdict));
     }
     let at = memchr(b'\n', text)?;
     Some((at + 1, judge(&text[..at])))

@@ -1,7 +1,10 @@
-//! Bulk path: single-page records in Lackey's own form.
+//! Bulk path: single-page records in Lackey's own form, with sizes below 100.
+//!
+//! Taken where several records are held. The lines whose pages are kept are read in a loop of their
+//! own, the others in a second one: saves a call and the reader's tests a record.
 
-ghost use Rattle.std.specs.Prelude.{◌≡◌, ◌+◌, ◌-◌, ◌^◌, ◌<◌, ◌≤◌, ◌++◌, length, take, drop, true, IfSome};
-ghost use Rattle.xl_lackey.specs.Skims.{batch_size, read_of, accesses_near, runs_both, HasRoom, IsCounted, IsRecordLine, IsSure, Runs};
+ghost use Rattle.std.specs.Prelude.{◌≡◌, ◌↔◌, ◌+◌, ◌-◌, ◌^◌, ◌<◌, ◌≤◌, ◌++◌, length, take, drop, true, IfSome};
+ghost use Rattle.xl_lackey.specs.Skims.{batch_size, read_of, accesses_in_page, runs_both, HasRoom, IsCounted, IsRecordLine, IsSure, Runs};
 
 use crate::access::stays_in_page;
 use crate::batch::{Batch, ROOM, put};
@@ -29,7 +32,7 @@ impl Default for Access {
 /// A line that was read: how many bytes it has with its newline, and its access; of a modify the
 /// load, which a store follows at the same place. `count` is how many accesses these are.
 #[derive(Clone, Copy)]
-pub(crate) struct Near {
+pub(crate) struct PageRecord {
     pub(crate) used: usize,
     pub(crate) va: u64,
     pub(crate) kind: Kind,
@@ -40,9 +43,9 @@ pub(crate) struct Near {
 /// The first line of a text, in Lackey's own form, where it is a record whose bytes lie in one
 /// page. `None`: not taken.
 #[inline(always)]
-fn near_record(text: &[u8]) -> Option<Near>
+fn page_record(text: &[u8]) -> Option<PageRecord>
     requires { 23 ≤ length text.now }
-    ensures line { IfSome result (λ near. IsRecordLine text.now near.used (read_of near)) }
+    ensures line { IfSome result (λ r. IsRecordLine text.now r.used (read_of r)) }
     ensures count { IfSome result IsCounted }
 {
     let (front, numbers) = front_of(text)?;
@@ -50,7 +53,7 @@ fn near_record(text: &[u8]) -> Option<Near>
     if !stays_in_page(found.addr, found.above) {
         return None;
     }
-    Some(Near {
+    Some(PageRecord {
         used: found.used,
         va: found.addr,
         kind: front.kind,
@@ -62,7 +65,7 @@ fn near_record(text: &[u8]) -> Option<Near>
 /// Whether there is room for the accesses of a record in one page, which are two at most.
 #[inline(always)]
 pub fn has_room(batch: &Batch) -> bool
-    ensures { result ≡ true → HasRoom batch.now.items }
+    ensures { (result ≡ true) ↔ HasRoom batch.now.items }
 {
     batch.len() <= ROOM - 2
 }
@@ -71,7 +74,7 @@ pub fn has_room(batch: &Batch) -> bool
 #[inline(always)]
 pub fn put_accesses(into: &mut Batch, va: u64, kind: Kind, is_modify: bool)
     requires { HasRoom into.old.items }
-    ensures { into.new.items ≡ into.old.items ++ accesses_near is_modify va kind }
+    ensures { into.new.items ≡ into.old.items ++ accesses_in_page is_modify va kind }
 {
     into.push(Access { va, kind });
     if is_modify {
@@ -158,19 +161,19 @@ pub(crate) fn skim_kept(
 /// Writes the access of a line into slot `at`, and a store into the next one. Returns how many of
 /// the two count. No branch asks whether a line is a modify: it would be predicted badly.
 #[inline(always)]
-fn put_near(slots: &mut [Access], at: usize, near: Near) -> usize
+fn put_record(slots: &mut [Access], at: usize, found: PageRecord) -> usize
     requires room { at + 2 ≤ length slots.old }
-    requires count { IsCounted near }
-    ensures items { take (at + result) slots.new ≡ take at slots.old ++ read_of near }
+    requires count { IsCounted found }
+    ensures items { take (at + result) slots.new ≡ take at slots.old ++ read_of found }
     ensures places { length slots.new ≡ length slots.old }
     ensures some { 1 ≤ result }
     ensures few { result ≤ 2 }
 {
-    let Near { va, kind, .. } = near;
+    let PageRecord { va, kind, .. } = found;
     put(slots, at, Access { va, kind });
     let kind = Kind::Store;
     put(slots, at + 1, Access { va, kind });
-    near.count
+    found.count
 }
 
 /// Where to put no access of a further record, after `len` accesses and those of `most` records at
@@ -204,11 +207,11 @@ pub(crate) fn skim_plain(text: &[u8], slots: &mut [Access], len: usize, most: u6
     let last = text.len() - NEAR;
     let full = full_at(len, most);
     'plain: while end < full && used <= last {
-        let Some(near) = near_record(&text[used..]) else {
+        let Some(found) = page_record(&text[used..]) else {
             break;
         };
-        end += put_near(slots, end, near);
-        used += near.used;
+        end += put_record(slots, end, found);
+        used += found.used;
         taken += 1;
     }
     let run = Run { used, taken };

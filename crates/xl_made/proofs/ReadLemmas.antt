@@ -1,5 +1,5 @@
 -- What the lines of made records are read as.
-use Rattle.xl_made.proofs.Common.{◌%◌, ◌*◌, ◌++◌, ◌+◌, ◌-◌, ◌/◌, ◌<◌, ◌^◌, ◌∙◌, ◌∷◌, ◌≡◌, ◌≤◌, ◌⊎◌, [], accesses_in, accesses_near, address_of, after, ap, arith, Bool, false, first_kind, Follows, hex_digits, hex_glyph, inl, inr, is_modify, IsFirst, IsFirstOf, Lcg, length, length-append, Letter, letter_of, List, nat_lt, page_of, pair, record_line, record_lines, record_of_word, refl, size_of, size_text, subst, suc, sym, Takes, takes_more, TakesFirst, true, usual_front, word, zero, ℕ}
+use Rattle.xl_made.proofs.Common.{◌%◌, ◌*◌, ◌++◌, ◌+◌, ◌-◌, ◌/◌, ◌<◌, ◌^◌, ◌∙◌, ◌∷◌, ◌≡◌, ◌≤◌, ◌⊎◌, [], accesses_in, accesses_in_page, address_of, after, ap, arith, Bool, false, first_kind, Follows, hex_digits, hex_glyph, inl, inr, is_modify, IsFirst, IsFirstOf, Lcg, length, length-append, Letter, letter_of, List, nat_lt, page_of, pair, record_line, record_lines, record_of_word, refl, size_of, size_text, subst, suc, sym, Takes, takes_more, TakesFirst, true, usual_front, word, zero, ℕ}
 use Rattle.std.proofs.lemmas.Bool.Decides.{nat_tests}
 use Rattle.std.specs.Prelude.{if◌then◌else◌, map, Some}
 use Rattle.xl_lackey.proofs.AddressLemmas.{hex_more}
@@ -104,13 +104,13 @@ unfolding address_of size_of
 record_in_page r = borders_none (address_of r) (size_of r) (omega arith) (size_either (nat_lt (r % 8) 3))
 
 -- its accesses there
-accesses_there : (l : Letter) (a : ℕ) → accesses_at l (a ∷ []) ≡ map pair (accesses_near (is_modify l) a (first_kind l))
+accesses_there : (l : Letter) (a : ℕ) → accesses_at l (a ∷ []) ≡ map pair (accesses_in_page (is_modify l) a (first_kind l))
 accesses_there letter.I a = refl
 accesses_there letter.L a = refl
 accesses_there letter.S a = refl
 accesses_there letter.M a = refl
 
-pub accesses_are : (r line : ℕ) → accesses_in (record_of_word r line) ≡ map pair (accesses_near (is_modify (letter_of r)) (address_of r) (first_kind (letter_of r)))
+pub accesses_are : (r line : ℕ) → accesses_in (record_of_word r line) ≡ map pair (accesses_in_page (is_modify (letter_of r)) (address_of r) (first_kind (letter_of r)))
 accesses_are r line =
     ap (λ (n : ℕ). accesses_at (letter_of r) (address_of r ∷ starts n (address_of r / 4096 + 1))) (record_in_page r) ∙ accesses_there (letter_of r) (address_of r)
 
@@ -123,14 +123,14 @@ takes_first n old mid new xs ys zs count k f =
 
 -- what is put after the accesses that are there
 pub follows_put : (r : ℕ) (before after : List Access) (m : Bool) (a : ℕ) (k : Kind) → m ≡ is_modify (letter_of r) → a ≡ address_of r → k ≡ first_kind (letter_of r)
-    → after ≡ before ++ accesses_near m a k → Follows r before after
+    → after ≡ before ++ accesses_in_page m a k → Follows r before after
 follows_put r before after m a k em ea ek h = record {
-  got = accesses_near (is_modify (letter_of r)) (address_of r) (first_kind (letter_of r));
+  got = accesses_in_page (is_modify (letter_of r)) (address_of r) (first_kind (letter_of r));
   follow =
       h
-      ∙ ap (λ (t : Bool). before ++ accesses_near t a k) em
-      ∙ ap (λ (n : ℕ). before ++ accesses_near (is_modify (letter_of r)) n k) ea
-      ∙ ap (λ (j : Kind). before ++ accesses_near (is_modify (letter_of r)) (address_of r) j) ek;
+      ∙ ap (λ (t : Bool). before ++ accesses_in_page t a k) em
+      ∙ ap (λ (n : ℕ). before ++ accesses_in_page (is_modify (letter_of r)) n k) ea
+      ∙ ap (λ (j : Kind). before ++ accesses_in_page (is_modify (letter_of r)) (address_of r) j) ek;
   each = accesses_are r;
 }
 

@@ -33,14 +33,14 @@ data_serves kind.Store e = (refl, refl)
 -- the specs of the three arrays say which pass and which serve
 module _ (f d s : TlbArray) (is : AreThree f.spec d.spec s.spec) where
   fetch_serves : (serves_kind kind.Fetch f ≡ true) × (serves_kind kind.Fetch d ≡ false)
-  fetch_serves = (ap (λ (x : Serves). serves_as x kind.Fetch) is.fetches, ap (λ (x : Serves). serves_as x kind.Fetch) is.loads)
+  fetch_serves = (ap (λ (x : Serves). serves_as x kind.Fetch) is.fetches, ap (λ (x : Serves). serves_as x kind.Fetch) is.data_is)
 
   module _ (k : Kind) (data_is : first_in true k ≡ 1) where
     passed : serves_kind k f ≡ false
     passed = ap (λ (x : Serves). serves_as x k) is.fetches ∙ (data_serves k data_is).0
 
     served : serves_kind k d ≡ true
-    served = ap (λ (x : Serves). serves_as x k) is.loads ∙ (data_serves k data_is).1
+    served = ap (λ (x : Serves). serves_as x k) is.data_is ∙ (data_serves k data_is).1
 
     under : IsUnder k d s
     under = record { served = served; all = serves_all k s is.second.all; below = is.other.below; takes = is.other.pair.takes }

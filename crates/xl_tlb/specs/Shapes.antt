@@ -43,7 +43,7 @@ pub record AreTwo (f s : TlbSpec) : Type 0 where
 -- A first array serves fetches and another one data, both under the second one.
 pub record AreThree (f d s : TlbSpec) : Type 0 where
   pub fetches : f.serves ≡ serves.Fetch
-  pub loads : d.serves ≡ serves.Data
+  pub data_is : d.serves ≡ serves.Data
   pub one : IsFirst f s
   pub other : IsFirst d s
   pub second : IsSecond s
@@ -114,7 +114,7 @@ pub record IsKnownWord (split : Bool) (k : Kind) (space page word : ℕ) (old ne
   pub after : new ≡ tlb_looked k space page old
   pub kept : IsKept split k space page word old.arrays new.arrays
 
--- What each answer of a look in line says; where a larger leaf may answer, nothing changes.
+-- What each answer of a look in line says; where another step may answer, nothing changes.
 abbrev pub IsKnownAnswer : Bool → Kind → ℕ → ℕ → Answered → TlbState → TlbState → Type 0
 IsKnownAnswer split k space page (answered.Word word) old new = IsKnownWord split k space page word old new
 IsKnownAnswer split k space page (answered.Large word) old new = IsWord k space page word old new

@@ -1,6 +1,7 @@
 //! A look and a fill of the arrays of all levels in turn, whatever they are.
 //!
-//! Taken where arrays have no other shape, and where a larger leaf of a second array may answer.
+//! Taken where arrays have no other shape, where a larger leaf of a second array may answer, and at
+//! a fill with a larger leaf.
 //! The first array that serves the access and hits gives its leaf; of its level the others are
 //! looked at for their counts, and on the way back the arrays of lower levels are filled.
 

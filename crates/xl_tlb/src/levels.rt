@@ -18,8 +18,8 @@ use std::marker::Model;
 use xl_array::{AnyArray, Hit, page_word};
 use xl_model::{Kind, Leaf, NoMemory, Purge, Reach, TlbSpec};
 
-/// The leaf's word; or the word of the page of a larger leaf; or a miss of all arrays; or unknown:
-/// fast path not taken, state unchanged.
+/// The leaf's word; or the word of the page of a larger leaf; or a miss of all arrays; or unknown,
+/// where another step may answer, and then nothing changed.
 #[derive(Clone, Copy)]
 pub(crate) enum Answered {
     Word { word: u64 },

@@ -31,7 +31,7 @@ fn place_of(first: usize, page: u64) -> usize
 const NONE: u64 = u64::MAX;
 
 impl MruPages {
-    /// No page is known.
+    /// All places empty.
     pub fn none() -> MruPages
         ensures { (first : ℕ) (arrays : List TlbArray) → Knows first result arrays }
     {
@@ -41,7 +41,7 @@ impl MruPages {
         }
     }
 
-    /// No page is known from now on.
+    /// Empties all places.
     #[inline]
     pub fn forget(&mut self)
         ensures { (first : ℕ) (arrays : List TlbArray) → Knows first self.new arrays }
@@ -49,20 +49,20 @@ impl MruPages {
         self.keys = [NONE; 16];
     }
 
-    /// What may have lost its front is not known from now on, where leaves of one set of this first
-    /// array came or moved: that of the block with this number. Where the sets are a multiple of
-    /// eight, the pages of the set have the block's last three bits, and so one place.
+    /// Empties what may have lost its front, where leaves came to or moved in the set of this page of
+    /// a first array. Where the sets are a multiple of eight, the pages of the set have the page's
+    /// last three bits, and so one place.
     #[inline]
-    pub fn forget_block(&mut self, first: usize, eights: bool, block: u64)
+    pub fn forget_place(&mut self, first: usize, eights: bool, page: u64)
         requires { first < 2 }
         ensures known { (old new : List TlbArray) → Knows first self.old old
-            → (eights ≡ true → FrontsStay (block % 8) old new) → Knows first self.new new }
+            → (eights ≡ true → FrontsStay (page % 8) old new) → Knows first self.new new }
         ensures others { StaysKnown first self.old self.new }
     {
         if !eights {
             self.forget();
         }
-        let place = place_of(first, block);
+        let place = place_of(first, page);
         self.keys[place] = NONE;
     }
 
@@ -91,7 +91,7 @@ impl MruPages {
             → IsFront lookup.space lookup.page word new → Knows first self.new new }
         ensures others { StaysKnown first self.old self.new }
     {
-        self.forget_block(first, eights, lookup.page);
+        self.forget_place(first, eights, lookup.page);
         self.keep(first, lookup, word);
     }
 

@@ -15,8 +15,8 @@ use crate::levels::Answered;
 use xl_array::{AnyArray, Lookup};
 
 /// What a look for a leaf of 4 KiB in two arrays saw: the leaf's word, and which array hits; or the
-/// word of the page of a larger leaf, which the first one hits; or that none does; or that a larger
-/// leaf of the second may hit, and then nothing changed.
+/// word of the page of a larger leaf, which the first one hits; or that none does; or nothing, where
+/// another step may answer, and then nothing changed.
 #[derive(Clone, Copy)]
 pub(crate) enum Seen {
     First { word: u64 },

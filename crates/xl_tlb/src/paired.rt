@@ -1,8 +1,8 @@
 //! Two levels of common arrays: a first one with one array, or with one for fetches and one for
 //! data, and a second one with one array.
 //!
-//! Taken where each has four or eight ways and sets by a mask, those of the first level a multiple
-//! of eight of them. The first array of the access's kind and the second one are looked at in line:
+//! Taken where each takes leaves of 4 KiB and has four or eight ways and sets by a mask, those of
+//! the first level a multiple of eight of them, and the second array serves all. The first array of the access's kind and the second one are looked at in line:
 //! saves the look in turn, and asks nothing for larger leaves where there are none.
 
 ghost use Rattle.std.specs.Prelude.{◌≡◌, true, false, map};

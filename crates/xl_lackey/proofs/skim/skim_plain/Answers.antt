@@ -16,13 +16,13 @@ pub plain-preserved : goal.plain-preserved
 plain-preserved c =
     let text = c.args.text.now in
     let first : List Access = take c.args.len c.args.slots.now in
-    let near = c.in-Some.near in
+    let found = c.in-Some.found in
     let old = c.plain in
-    let put = c.put_near-end in
-    let line = subst (λ (t : List ℕ). IsRecordLine t near.used (read_of near)) (take_rest text old.used) c.in-Some.ensures.line in
+    let put = c.put_record-end in
+    let line = subst (λ (t : List ℕ). IsRecordLine t found.used (read_of found)) (take_rest text old.used) c.in-Some.ensures.line in
     record {
-      runs = subst (λ (xs : List Access). Runs text first xs (record { used = old.used + near.used; taken = old.taken + 1 })) (sym put.ensures.items)
-          (runs_more text first (take old.end old.slots) (read_of near) (record { used = old.used; taken = old.taken }) near.used old.invariant.runs line);
+      runs = subst (λ (xs : List Access). Runs text first xs (record { used = old.used + found.used; taken = old.taken + 1 })) (sym put.ensures.items)
+          (runs_more text first (take old.end old.slots) (read_of found) (record { used = old.used; taken = old.taken }) found.used old.invariant.runs line);
       places = put.ensures.places ∙ old.invariant.places;
       end = omega (arith, put.ensures.few, c.plain-test.true, c.full_at-full.ensures.room);
       within = omega (arith, line.line.within, length-drop old.used text, old.invariant.within);

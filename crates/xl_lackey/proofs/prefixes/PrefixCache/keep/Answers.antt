@@ -28,8 +28,8 @@ keep_page-requires-then-text-eq44-2-clause-begins c =
     line_begins 2 text numbers l c.in-Some.front.now.kind (eight / 16) c.in-Some.ensures.front (omega (arith, long)) value
     (omega (arith, small)) c.in-Some.ensures.kind (sym c.in-Some.ensures.modifies ∙ c.if-front.false)
 
-pub keep_page-requires-in-Some-hex_digit-clause-begins : goal.keep_page-requires-in-Some-hex_digit-clause-begins
-keep_page-requires-in-Some-hex_digit-clause-begins c =
+pub keep_page-requires-then-text-eq44-3-clause-begins : goal.keep_page-requires-then-text-eq44-3-clause-begins
+keep_page-requires-then-text-eq44-3-clause-begins c =
     let text = c.args.text.now in
     let numbers = c.in-Some.numbers.now in
     let l = c.in-Some.front.now.letter in
@@ -41,3 +41,9 @@ keep_page-requires-in-Some-hex_digit-clause-begins c =
     let small : eight < 16 ^ 8 = c.in-Some-eight_digits.ensures.small in
     line_begins 4 text numbers l c.in-Some.front.now.kind (eight * 16 + ninth) c.in-Some.ensures.front (omega (arith, long)) value
     (omega (arith, small, c.in-Some-hex_digit.ensures.bound)) c.in-Some.ensures.kind (sym c.in-Some.ensures.modifies ∙ c.if-front.false)
+
+pub bounds-numbers-8 : goal.bounds-numbers-8
+bounds-numbers-8 c =
+    let numbers = c.in-Some.numbers.now in
+    let l = c.in-Some.front.now.letter in
+    omega (arith, c.requires, ap length c.in-Some.ensures.front, length-append (usual_front l) numbers, front_length l)
